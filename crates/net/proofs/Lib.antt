@@ -1,0 +1,11 @@
+pub mod Bits
+pub mod Members
+pub mod Subsets
+pub mod Totals
+pub mod Sizes
+pub mod Meets
+pub mod Thins
+pub mod Known
+pub mod Listed
+pub mod Kept
+pub mod Lows

@@ -1,0 +1,6 @@
+pub mod Sets
+pub mod Sums
+pub mod Lowest
+pub mod Arcs
+pub mod Nets
+pub mod Strands
