@@ -1,0 +1,9 @@
+mod digits;
+mod frames;
+mod kinds;
+mod reads;
+
+pub use frames::Frame;
+pub use frames::Payload;
+pub use kinds::payload_length;
+pub use reads::read;

@@ -1,0 +1,76 @@
+// Reading a line.
+ghost use mathlib.Core.Path.{_≡_};
+ghost use mathlib.Core.Bool.{not};
+ghost use mathlib.Core.List.{[], _∷_};
+ghost use Prim.Native.Nat.{_-_, _%_};
+ghost use lib.Dec.{eqb};
+ghost use lib.ListN.{length, take, drop};
+ghost use Rattle.std.specs.shelf.Lists.{sum};
+ghost use Rattle.refusal.specs.declared.Refusal.the-variants.{Foreign, OddOrShort};
+ghost use Rattle.refusal.specs.Firsts.{firstOf, Tells};
+ghost use Rattle.frame.specs.Digits.{allDigits, bytesOf};
+ghost use Rattle.frame.specs.Lines.{digitsIn, faultIn};
+ghost use Rattle.frame.specs.Frames.{Reads};
+use crate::digits::digit;
+use crate::frames::Frame;
+use crate::kinds::frame_of;
+use refusal::Refusal;
+
+// A line without a line feed at its end.
+fn digits_in(line: &[u8]) -> &[u8]
+    ensures { λ r. ⌜ now r ≡ digitsIn (now (line .entry)) ⌝ }
+{
+    let [digits @ .., last] = line else {
+        return line;
+    };
+    if *last == b'\n' { digits } else { line }
+}
+
+// The sum of the bytes that digits stand for, modulo 256.
+fn sum_of(digits: &[u8]) -> Result<u8, Refusal>
+    ensures { λ r. ⌜ Tells (firstOf ((not (allDigits (now (digits .entry))), Foreign) ∷ ((eqb (length (now (digits .entry)) % 2) 1, OddOrShort) ∷ []))) r (λ s. s ≡ sum (bytesOf (now (digits .entry))) % 256) (Unit {0}) ⌝ }
+{
+    let mut sum = 0u8;
+    let mut rest = digits;
+    while let [high, low, more @ ..] = rest {
+        let Some(high) = digit(*high) else {
+            return Err(Refusal::Foreign);
+        };
+        let Some(low) = digit(*low) else {
+            return Err(Refusal::Foreign);
+        };
+        sum = sum.wrapping_add(high * 16 + low);
+        rest = more;
+    }
+    let [last, ..] = rest else {
+        return Ok(sum);
+    };
+    let Some(_) = digit(*last) else {
+        return Err(Refusal::Foreign);
+    };
+    Err(Refusal::OddOrShort)
+}
+
+// The frame of a line that stands at `place` in the input, or what is wrong with the line.
+pub fn read<'a>(line: &'a [u8], place: usize) -> Result<Frame<'a>, Refusal>
+    ensures { λ r. ⌜ Reads (now (line .entry)) place r ⌝ }
+{
+    let digits = digits_in(line);
+    let sum = sum_of(digits)?;
+    let [high, low, rest @ ..] = digits else {
+        return Err(Refusal::OddOrShort);
+    };
+    let [payload @ .., _, _] = rest else {
+        return Err(Refusal::OddOrShort);
+    };
+    if sum != 0 {
+        return Err(Refusal::WrongCheck);
+    }
+    let Some(high) = digit(*high) else {
+        return Err(Refusal::Foreign);
+    };
+    let Some(low) = digit(*low) else {
+        return Err(Refusal::Foreign);
+    };
+    frame_of(high * 16 + low, payload, place)
+}
