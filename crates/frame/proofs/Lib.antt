@@ -1,2 +1,6 @@
 pub mod Hex
 pub mod Readings
+pub mod Rounds
+pub mod Again
+pub mod Puts
+pub mod Written

@@ -5,13 +5,17 @@
 --   DigitsRead what digits at a place are read as: refused by the first fault in them, or else a frame of their kind, with the digits
 --              between those of the kind and of the check byte
 --   Reads      what a line is read as
+--   payloadOf  the bytes of a frame's payload
+--   ReadsAs    every reading of the line gives the frame of a kind and a payload, whatever the place
 use mathlib.Core.List.{List}
-use Prim.Native.Nat.{ℕ, _+_, _-_}
+use Prim.Native.Nat.{ℕ, _-_}
 use lib.ListN.{length, take, drop}
 use mathlib.Core.Path.{_≡_}
+use Rattle.std.specs.Results.{Cases}
 use Rattle.std.specs.declared.result.Result.{Result}
 use Rattle.refusal.specs.declared.Refusal.{Refusal}
 use Rattle.refusal.specs.Firsts.{Tells}
+use Rattle.frame.specs.Digits.{bytesOf}
 use Rattle.frame.specs.Lines.{digitsIn, kindIn, faultIn}
 use Rattle.frame.specs.declared.frames.Frame.{Frame}
 use Rattle.frame.specs.declared.frames.Frame.the-variants.{Draw, Arcs, Propose, Search, Certify, Fire, Signal, Halt, Resume, Home, Answer}
@@ -27,7 +31,7 @@ kindOf (Signal p) = 7
 kindOf (Halt p) = 8
 kindOf (Resume p) = 9
 kindOf (Home p) = 10
-kindOf (Answer to p) = 128 + to
+kindOf (Answer kind p) = kind
 
 abbrev pub digitsOf : Frame → List ℕ
 digitsOf (Draw p) = p .digits .now
@@ -40,7 +44,7 @@ digitsOf (Signal p) = p .digits .now
 digitsOf (Halt p) = p .digits .now
 digitsOf (Resume p) = p .digits .now
 digitsOf (Home p) = p .digits .now
-digitsOf (Answer to p) = p .digits .now
+digitsOf (Answer kind p) = p .digits .now
 
 abbrev pub placeOf : Frame → ℕ
 placeOf (Draw p) = p .place
@@ -53,10 +57,16 @@ placeOf (Signal p) = p .place
 placeOf (Halt p) = p .place
 placeOf (Resume p) = p .place
 placeOf (Home p) = p .place
-placeOf (Answer to p) = p .place
+placeOf (Answer kind p) = p .place
 
 abbrev pub DigitsRead : List ℕ → ℕ → Result Frame Refusal → Type 0
 DigitsRead ds place r = Tells (faultIn ds) r (λ f. (kindOf f ≡ kindIn ds) × (digitsOf f ≡ take (length ds - 4) (drop 2 ds)) × (placeOf f ≡ place)) (Unit {0})
 
 abbrev pub Reads : List ℕ → ℕ → Result Frame Refusal → Type 0
 Reads line place r = DigitsRead (digitsIn line) place r
+
+abbrev pub payloadOf : Frame → List ℕ
+payloadOf f = bytesOf (digitsOf f)
+
+abbrev pub ReadsAs : List ℕ → ℕ → List ℕ → Type 0
+ReadsAs line kind payload = (place : ℕ) (r : Result Frame Refusal) → Reads line place r → Cases r (λ f. (kindOf f ≡ kind) × (payloadOf f ≡ payload) × (placeOf f ≡ place)) (λ _. ⊥)

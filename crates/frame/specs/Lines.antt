@@ -49,7 +49,7 @@ checkOf bytes = (256 - sum bytes % 256) % 256
 abbrev pub lineOf : ℕ → List ℕ → List ℕ
 lineOf kind payload = hexOf (kind ∷ (payload ++ checkOf (kind ∷ payload) ∷ [])) ++ 10 ∷ []
 
-abbrev isThis : ℕ → Option ℕ → Bool
+abbrev pub isThis : ℕ → Option ℕ → Bool
 isThis n None = false
 isThis n (Some m) = eqb n m
 

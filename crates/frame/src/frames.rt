@@ -20,6 +20,6 @@ pub enum Frame<'a> {
     Halt(Payload<'a>),
     Resume(Payload<'a>),
     Home(Payload<'a>),
-    // the answer to a line of kind `to`, or with 0 to a line that has none
-    Answer { to: u8, payload: Payload<'a> },
+    // one of the kinds 128 to 138: the answer to a line of the kind that is 128 less, or by 128 to a line that has none
+    Answer { kind: u8, payload: Payload<'a> },
 }

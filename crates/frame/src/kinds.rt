@@ -48,7 +48,7 @@ pub(crate) fn frame_of<'a>(kind: u8, digits: &'a [u8], place: usize) -> Result<F
         8 => Frame::Halt(payload),
         9 => Frame::Resume(payload),
         10 => Frame::Home(payload),
-        128..=138 => Frame::Answer { to: kind - 128, payload },
+        128..=138 => Frame::Answer { kind, payload },
         _ => return Err(Refusal::UnknownKind),
     })
 }

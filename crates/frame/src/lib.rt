@@ -2,8 +2,10 @@ mod digits;
 mod frames;
 mod kinds;
 mod reads;
+mod writes;
 
 pub use frames::Frame;
 pub use frames::Payload;
 pub use kinds::payload_length;
 pub use reads::read;
+pub use writes::write;

@@ -1,16 +1,17 @@
 // Reading a line.
 ghost use mathlib.Core.Path.{_≡_};
 ghost use mathlib.Core.Bool.{not};
-ghost use mathlib.Core.List.{[], _∷_};
-ghost use Prim.Native.Nat.{_-_, _%_};
+ghost use mathlib.Core.List.{[], _∷_, _++_};
+ghost use Prim.Native.Nat.{_%_};
 ghost use lib.Dec.{eqb};
-ghost use lib.ListN.{length, take, drop};
+ghost use lib.ListN.{length};
+ghost use Rattle.std.specs.Vec.{made};
 ghost use Rattle.std.specs.shelf.Lists.{sum};
 ghost use Rattle.refusal.specs.declared.Refusal.the-variants.{Foreign, OddOrShort};
 ghost use Rattle.refusal.specs.Firsts.{firstOf, Tells};
 ghost use Rattle.frame.specs.Digits.{allDigits, bytesOf};
-ghost use Rattle.frame.specs.Lines.{digitsIn, faultIn};
-ghost use Rattle.frame.specs.Frames.{Reads};
+ghost use Rattle.frame.specs.Lines.{digitsIn, lineOf};
+ghost use Rattle.frame.specs.Frames.{kindOf, payloadOf, Reads};
 use crate::digits::digit;
 use crate::frames::Frame;
 use crate::kinds::frame_of;
@@ -53,7 +54,8 @@ fn sum_of(digits: &[u8]) -> Result<u8, Refusal>
 
 // The frame of a line that stands at `place` in the input, or what is wrong with the line.
 pub fn read<'a>(line: &'a [u8], place: usize) -> Result<Frame<'a>, Refusal>
-    ensures { λ r. ⌜ Reads (now (line .entry)) place r ⌝ }
+    ensures reads { λ r. ⌜ Reads (now (line .entry)) place r ⌝ }
+    ensures writes_again { λ r. ⌜ made r (λ f. lineOf (kindOf f) (payloadOf f) ≡ digitsIn (now (line .entry)) ++ 10 ∷ []) ⌝ }
 {
     let digits = digits_in(line);
     let sum = sum_of(digits)?;

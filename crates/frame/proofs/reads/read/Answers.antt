@@ -6,8 +6,9 @@ use borrow.Author.Needs.{needs}
 use Rattle.std.specs.declared.option.Option.the-variants.{Some}
 use Rattle.refusal.specs.declared.Refusal.the-variants.{WrongCheck}
 use Rattle.frame.specs.Lines.{faultIn}
-use Rattle.frame.specs.Frames.{DigitsRead}
+use Rattle.frame.specs.Frames.{DigitsRead, Reads}
 use Rattle.frame.proofs.Hex.{Front, digit-small}
+use Rattle.frame.proofs.Again.{result-writes}
 use Rattle.frame.proofs.Readings.{Paired, sum-passes, wrong-check, middle, reads-digits}
 use Rattle.frame.proofs.reads.read.Needs as need
 
@@ -17,7 +18,10 @@ returns-then-sum-ne0 c =
     let (none, is) = c .in-Continue-sum .ensures tt in
     let (digits, even) = sum-passes ds none in
     let long : 4 ≤ length ds = search needs in
-    (subst (λ l. faultIn l ≡ Some WrongCheck) (c .digits-in-digits .ensures) (wrong-check ds (digits, even, long) (λ e. c .if-sum-ne0 .taken (is ∙ e))), tt)
+    record {
+      reads = (subst (λ l. faultIn l ≡ Some WrongCheck) (c .digits-in-digits .ensures) (wrong-check ds (digits, even, long) (λ e. c .if-sum-ne0 .taken (is ∙ e))), tt);
+      writes-again = tt;
+    }
 
 pub mul-high : need.mul-high
 mul-high c =
@@ -39,5 +43,7 @@ returns c =
     let (digits, even) = sum-passes ds none in
     let long : 4 ≤ length ds = search needs in
     let front : Front ds (c .in-Some .high) (c .in-Some-digit .low) = (omega arith, sym (c .digit .ensures) ∙ c .in-Some .is, sym (c .digit-2 .ensures) ∙ c .in-Some-digit .is) in
-    subst (λ l. DigitsRead l (c .args .place) (c .frame-of .result)) (c .digits-in-digits .ensures)
-    (reads-digits ds _ (c .args .place) (c .in-Some .high) (c .in-Some-digit .low) (c .frame-of .result) (digits, even, long) (sym is ∙ c .if-sum-ne0 .left) front (middle ds) (c .frame-of .ensures))
+    let reading : Reads (c .args .line .now) (c .args .place) (c .frame-of .result) =
+        subst (λ l. DigitsRead l (c .args .place) (c .frame-of .result)) (c .digits-in-digits .ensures)
+        (reads-digits ds _ (c .args .place) (c .in-Some .high) (c .in-Some-digit .low) (c .frame-of .result) (digits, even, long) (sym is ∙ c .if-sum-ne0 .left) front (middle ds) (c .frame-of .ensures)) in
+    record { reads = reading; writes-again = result-writes (c .args .line .now) (c .args .place) (c .frame-of .result) reading }
