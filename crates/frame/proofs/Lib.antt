@@ -4,3 +4,4 @@ pub mod Rounds
 pub mod Again
 pub mod Puts
 pub mod Written
+pub mod Fields
