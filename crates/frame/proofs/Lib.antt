@@ -5,3 +5,4 @@ pub mod Again
 pub mod Puts
 pub mod Written
 pub mod Fields
+pub mod Feeds

@@ -3,3 +3,4 @@ pub mod Lines
 pub mod Frames
 pub mod Writings
 pub mod Requests
+pub mod Cuts

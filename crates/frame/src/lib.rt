@@ -1,3 +1,4 @@
+mod cuts;
 mod digits;
 mod frames;
 mod kinds;
@@ -5,6 +6,7 @@ mod reads;
 mod requests;
 mod writes;
 
+pub use cuts::first_line;
 pub use frames::Frame;
 pub use frames::Payload;
 pub use kinds::payload_length;
