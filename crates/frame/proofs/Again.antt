@@ -20,7 +20,7 @@ use Rattle.refusal.specs.declared.Refusal.the-variants.{Foreign, OddOrShort, Wr
 use Rattle.refusal.specs.Firsts.{firstOf, Tells}
 use Rattle.refusal.proofs.Firsts.{none-applies}
 use Rattle.frame.specs.Digits.{allDigits, numberOf, bytesOf, charOf, hexOf}
-use Rattle.frame.specs.Lines.{digitsIn, payloadLength, kindIn, checkOf, lineOf, kindRules, faultIn}
+use Rattle.frame.specs.Lines.{digitsIn, kindIn, checkOf, lineOf, kindRules, faultIn}
 use Rattle.frame.specs.declared.frames.Frame.{Frame}
 use Rattle.frame.specs.Frames.{kindOf, digitsOf, placeOf, payloadOf, Reads, DigitsRead, ReadsAs}
 use Rattle.frame.proofs.Readings.{Paired, right-check, length-bytes}

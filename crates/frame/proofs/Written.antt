@@ -14,7 +14,8 @@ use Rattle.refusal.specs.declared.Refusal.{Refusal}
 use Rattle.refusal.specs.declared.Refusal.the-variants.{UnknownKind, WrongLength, MemoryTooShort}
 use Rattle.refusal.specs.Firsts.{firstOf}
 use Rattle.refusal.proofs.Firsts.{first-applies, first-passed}
-use Rattle.frame.specs.Lines.{payloadLength, isThis, isLong, kindRules, lineOf}
+use Rattle.frame.specs.Kinds.{payloadLength}
+use Rattle.frame.specs.Lines.{isThis, isLong, kindRules, lineOf}
 use Rattle.frame.specs.Writings.{writeRules}
 
 module _ (kind : ℕ) (payload : List ℕ) (bytes : ℕ) (known : payloadLength kind ≡ Some bytes) (long : length payload ≡ bytes) where

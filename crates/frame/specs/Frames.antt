@@ -8,7 +8,7 @@
 --   payloadOf  the bytes of a frame's payload
 --   ReadsAs    every reading of the line gives the frame of a kind and a payload, whatever the place
 use mathlib.Core.List.{List}
-use Prim.Native.Nat.{ℕ, _-_}
+use Prim.Native.Nat.{ℕ, _+_, _-_}
 use lib.ListN.{length, take, drop}
 use mathlib.Core.Path.{_≡_}
 use Rattle.std.specs.Results.{Cases}
@@ -17,8 +17,17 @@ use Rattle.refusal.specs.declared.Refusal.{Refusal}
 use Rattle.refusal.specs.Firsts.{Tells}
 use Rattle.frame.specs.Digits.{bytesOf}
 use Rattle.frame.specs.Lines.{digitsIn, kindIn, faultIn}
+use Rattle.std.specs.declared.option.Option.{Option}
+use Rattle.std.specs.declared.option.Option.the-variants.{Some, None}
+use Rattle.frame.specs.declared.kinds.Kind.{Kind}
+use Rattle.frame.specs.Kinds.{byteOf}
 use Rattle.frame.specs.declared.frames.Frame.{Frame}
 use Rattle.frame.specs.declared.frames.Frame.the-variants.{Draw, Arcs, Propose, Search, Certify, Fire, Signal, Halt, Resume, Home, Answer}
+
+-- the byte of a kind, and 0 for none
+abbrev numbered : Option Kind → ℕ
+numbered None = 0
+numbered (Some kind) = byteOf kind
 
 abbrev pub kindOf : Frame → ℕ
 kindOf (Draw p) = 1
@@ -31,7 +40,7 @@ kindOf (Signal p) = 7
 kindOf (Halt p) = 8
 kindOf (Resume p) = 9
 kindOf (Home p) = 10
-kindOf (Answer kind p) = kind
+kindOf (Answer to p) = 128 + numbered to
 
 abbrev pub digitsOf : Frame → List ℕ
 digitsOf (Draw p) = p .digits .now
@@ -44,7 +53,7 @@ digitsOf (Signal p) = p .digits .now
 digitsOf (Halt p) = p .digits .now
 digitsOf (Resume p) = p .digits .now
 digitsOf (Home p) = p .digits .now
-digitsOf (Answer kind p) = p .digits .now
+digitsOf (Answer to p) = p .digits .now
 
 abbrev pub placeOf : Frame → ℕ
 placeOf (Draw p) = p .place
@@ -57,7 +66,7 @@ placeOf (Signal p) = p .place
 placeOf (Halt p) = p .place
 placeOf (Resume p) = p .place
 placeOf (Home p) = p .place
-placeOf (Answer kind p) = p .place
+placeOf (Answer to p) = p .place
 
 abbrev pub DigitsRead : List ℕ → ℕ → Result Frame Refusal → Type 0
 DigitsRead ds place r = Tells (faultIn ds) r (λ f. (kindOf f ≡ kindIn ds) × (digitsOf f ≡ take (length ds - 4) (drop 2 ds)) × (placeOf f ≡ place)) (Unit {0})

@@ -1,4 +1,5 @@
 pub mod Digits
+pub mod Kinds
 pub mod Lines
 pub mod Frames
 pub mod Writings

@@ -1,16 +1,15 @@
 -- Lines of a job, and the bytes that they stand for.
 --   digitsIn       the digits of a line: all of it but a line feed at its end
---   payloadLength  how many bytes the payload of a kind has, if there is such a kind
 --   kindIn         the kind that the first two digits stand for
 --   checkOf        the check byte: with it the bytes sum to 0 modulo 256
 --   lineOf         the line of a kind and a payload: kind, payload and check byte in digits, and a line feed
 --   isLong         whether a payload of n bytes is as long as its kind asks
 --   kindRules      what can be wrong with a kind and the length of its payload
 --   faultIn        what is wrong with the digits of a line, if anything: the first that applies
-use mathlib.Core.Bool.{Bool, false, cond, not, _&&_, _||_}
+use mathlib.Core.Bool.{Bool, false, cond, not, _||_}
 use mathlib.Core.List.{List, [], _∷_, _++_}
 use Prim.Native.Nat.{ℕ, _+_, _-_, _%_}
-use lib.Dec.{eqb, leb, ltb}
+use lib.Dec.{eqb, ltb}
 use lib.ListN.{length, getD, take}
 use Rattle.std.specs.Options.{isSome}
 use Rattle.std.specs.shelf.Lists.{sum}
@@ -19,26 +18,11 @@ use Rattle.std.specs.declared.option.Option.the-variants.{Some, None}
 use Rattle.refusal.specs.declared.Refusal.{Refusal}
 use Rattle.refusal.specs.declared.Refusal.the-variants.{Foreign, OddOrShort, WrongCheck, UnknownKind, WrongLength}
 use Rattle.refusal.specs.Firsts.{firstOf}
+use Rattle.frame.specs.Kinds.{payloadLength}
 use Rattle.frame.specs.Digits.{allDigits, bytesOf, hexOf}
 
 abbrev pub digitsIn : List ℕ → List ℕ
 digitsIn line = cond (eqb (getD line (length line - 1) 0) 10) (take (length line - 1) line) line
-
--- a set is 8 bytes, and any other field is one
-abbrev pub payloadLength : ℕ → Option ℕ
-payloadLength k =
-    cond (eqb k 1) (Some 10) -- draw: places, transitions, the set of marks
-    (cond (eqb k 2) (Some 17) -- arcs: transition, the set taken, the set given
-    (cond (eqb k 3) (Some 8) -- propose: a set
-    (cond (eqb k 4) (Some 0) -- search
-    (cond (eqb k 5) (Some 0) -- certify and start
-    (cond (eqb k 6) (Some 1) -- fire: transition
-    (cond (eqb k 7) (Some 2) -- signal: channel, event
-    (cond (eqb k 8) (Some 0) -- halt
-    (cond (eqb k 9) (Some 0) -- resume
-    (cond (eqb k 10) (Some 0) -- home
-    (cond (leb 128 k && leb k 138) (Some 10) -- an answer: result, detail, the lit set
-    None))))))))))
 
 abbrev pub kindIn : List ℕ → ℕ
 kindIn ds = getD (bytesOf ds) 0 0

@@ -1,15 +1,15 @@
--- The fields of a frame.
+-- What a line says, by its kind and its payload.
 --   numberFrom  the number that so many bytes make, from a place on, the highest first
 --   setAt       a set: 8 bytes
---   requestOf   what a frame says: its fields in their order, each one byte but for the sets
+--   requestOf   the fields of a line, in their order: each one byte but for the sets
+use mathlib.Core.Bool.{cond}
 use mathlib.Core.List.{List}
-use Prim.Native.Nat.{ℕ, zero, suc, _+_, _*_}
+use Prim.Native.Nat.{ℕ, zero, suc, _+_, _-_, _*_}
+use lib.Dec.{eqb}
 use lib.ListN.{getD}
-use Rattle.frame.specs.declared.frames.Frame.{Frame}
-use Rattle.frame.specs.declared.frames.Frame.the-variants as frame
+use Rattle.frame.specs.Kinds.{kindFrom}
 use Rattle.frame.specs.declared.requests.Request.{Request}
 use Rattle.frame.specs.declared.requests.Request.the-variants.{Draw, Arcs, Propose, Search, Certify, Fire, Signal, Halt, Resume, Home, Answer}
-use Rattle.frame.specs.Frames.{payloadOf}
 
 unfoldable pub numberFrom : ℕ → List ℕ → ℕ → ℕ
 numberFrom zero bytes at = 0
@@ -18,21 +18,16 @@ numberFrom (suc n) bytes at = numberFrom n bytes at * 256 + getD bytes (at + n) 
 abbrev pub setAt : List ℕ → ℕ → ℕ
 setAt bytes at = numberFrom 8 bytes at
 
-abbrev byteIn : Frame → ℕ → ℕ
-byteIn f at = getD (payloadOf f) at 0
-
-abbrev setIn : Frame → ℕ → ℕ
-setIn f at = setAt (payloadOf f) at
-
-abbrev pub requestOf : Frame → Request
-requestOf (frame.Draw p) = Draw (byteIn (frame.Draw p) 0) (byteIn (frame.Draw p) 1) (setIn (frame.Draw p) 2)
-requestOf (frame.Arcs p) = Arcs (byteIn (frame.Arcs p) 0) (setIn (frame.Arcs p) 1) (setIn (frame.Arcs p) 9)
-requestOf (frame.Propose p) = Propose (setIn (frame.Propose p) 0)
-requestOf (frame.Search p) = Search
-requestOf (frame.Certify p) = Certify
-requestOf (frame.Fire p) = Fire (byteIn (frame.Fire p) 0)
-requestOf (frame.Signal p) = Signal (byteIn (frame.Signal p) 0) (byteIn (frame.Signal p) 1)
-requestOf (frame.Halt p) = Halt
-requestOf (frame.Resume p) = Resume
-requestOf (frame.Home p) = Home
-requestOf (frame.Answer kind p) = Answer kind (byteIn (frame.Answer kind p) 0) (byteIn (frame.Answer kind p) 1) (setIn (frame.Answer kind p) 2)
+abbrev pub requestOf : ℕ → List ℕ → Request
+requestOf kind bytes =
+    cond (eqb kind 1) (Draw (getD bytes 0 0) (getD bytes 1 0) (setAt bytes 2))
+    (cond (eqb kind 2) (Arcs (getD bytes 0 0) (setAt bytes 1) (setAt bytes 9))
+    (cond (eqb kind 3) (Propose (setAt bytes 0))
+    (cond (eqb kind 4) Search
+    (cond (eqb kind 5) Certify
+    (cond (eqb kind 6) (Fire (getD bytes 0 0))
+    (cond (eqb kind 7) (Signal (getD bytes 0 0) (getD bytes 1 0))
+    (cond (eqb kind 8) Halt
+    (cond (eqb kind 9) Resume
+    (cond (eqb kind 10) Home
+    (Answer (kindFrom (kind - 128)) (getD bytes 0 0) (getD bytes 1 0) (setAt bytes 2)))))))))))

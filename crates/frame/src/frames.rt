@@ -1,4 +1,5 @@
 // A line as it was read: an enum of kinds, whose cases hold the payload.
+use crate::kinds::Kind;
 
 // The digits of a payload, two to a byte: a part of the caller's input, with the place of its line there.
 // Only reading a line makes one, so the digits are as many as the kind of their frame asks.
@@ -20,6 +21,6 @@ pub enum Frame<'a> {
     Halt(Payload<'a>),
     Resume(Payload<'a>),
     Home(Payload<'a>),
-    // one of the kinds 128 to 138: the answer to a line of the kind that is 128 less, or by 128 to a line that has none
-    Answer { kind: u8, payload: Payload<'a> },
+    // the answer to a line of a kind, or to one that has none: an unreadable line, or itself an answer
+    Answer { to: Option<Kind>, payload: Payload<'a> },
 }

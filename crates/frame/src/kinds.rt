@@ -1,13 +1,60 @@
-// The kinds of frames, each with the length of its payload.
+// The kinds of lines, each with its byte and the length of its payload.
 ghost use mathlib.Core.Path.{_≡_};
-ghost use Prim.Native.Nat.{_/_, _%_};
-ghost use lib.ListN.{length};
-ghost use Rattle.refusal.specs.Firsts.{firstOf, Tells};
-ghost use Rattle.frame.specs.Lines.{payloadLength, kindRules};
-ghost use Rattle.frame.specs.Frames.{kindOf, digitsOf, placeOf};
-use crate::frames::Frame;
-use crate::frames::Payload;
-use refusal::Refusal;
+ghost use Rattle.frame.specs.Kinds.{byteOf, kindFrom, payloadLength};
+
+// What a line asks for. Its answer has the byte of its kind plus 128.
+#[derive(Clone, Copy, Debug)]
+pub enum Kind {
+    Draw,
+    Arcs,
+    Propose,
+    Search,
+    Certify,
+    Fire,
+    Signal,
+    Halt,
+    Resume,
+    Home,
+}
+
+impl Kind {
+    // The kind that a byte stands for, if it stands for one.
+    pub fn of(byte: u8) -> Option<Kind>
+        ensures { λ r. ⌜ r ≡ kindFrom byte ⌝ }
+    {
+        match byte {
+            1 => Some(Kind::Draw),
+            2 => Some(Kind::Arcs),
+            3 => Some(Kind::Propose),
+            4 => Some(Kind::Search),
+            5 => Some(Kind::Certify),
+            6 => Some(Kind::Fire),
+            7 => Some(Kind::Signal),
+            8 => Some(Kind::Halt),
+            9 => Some(Kind::Resume),
+            10 => Some(Kind::Home),
+            _ => None,
+        }
+    }
+
+    // The byte that stands for the kind.
+    pub fn byte(self) -> u8
+        ensures { λ r. ⌜ r ≡ byteOf self ⌝ }
+    {
+        match self {
+            Kind::Draw => 1,
+            Kind::Arcs => 2,
+            Kind::Propose => 3,
+            Kind::Search => 4,
+            Kind::Certify => 5,
+            Kind::Fire => 6,
+            Kind::Signal => 7,
+            Kind::Halt => 8,
+            Kind::Resume => 9,
+            Kind::Home => 10,
+        }
+    }
+}
 
 // How many bytes the payload of a kind has, if there is such a kind.
 pub fn payload_length(kind: u8) -> Option<usize>
@@ -23,32 +70,4 @@ pub fn payload_length(kind: u8) -> Option<usize>
         128..=138 => Some(10),
         _ => None,
     }
-}
-
-// The frame of a kind, with the digits of its payload.
-pub(crate) fn frame_of<'a>(kind: u8, digits: &'a [u8], place: usize) -> Result<Frame<'a>, Refusal>
-    requires { ⌜ length (now digits) % 2 ≡ 0 ⌝ }
-    ensures { λ r. ⌜ Tells (firstOf (kindRules kind (length (now (digits .entry)) / 2))) r (λ f. (kindOf f ≡ kind) × (digitsOf f ≡ now (digits .entry)) × (placeOf f ≡ place)) (Unit {0}) ⌝ }
-{
-    let Some(bytes) = payload_length(kind) else {
-        return Err(Refusal::UnknownKind);
-    };
-    if digits.len() / 2 != bytes {
-        return Err(Refusal::WrongLength);
-    }
-    let payload = Payload { digits, place };
-    Ok(match kind {
-        1 => Frame::Draw(payload),
-        2 => Frame::Arcs(payload),
-        3 => Frame::Propose(payload),
-        4 => Frame::Search(payload),
-        5 => Frame::Certify(payload),
-        6 => Frame::Fire(payload),
-        7 => Frame::Signal(payload),
-        8 => Frame::Halt(payload),
-        9 => Frame::Resume(payload),
-        10 => Frame::Home(payload),
-        128..=138 => Frame::Answer { kind, payload },
-        _ => return Err(Refusal::UnknownKind),
-    })
 }

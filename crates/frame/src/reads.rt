@@ -1,20 +1,24 @@
 // Reading a line.
 ghost use mathlib.Core.Path.{_≡_};
-ghost use mathlib.Core.Bool.{not};
+ghost use mathlib.Core.Bool.{false, not};
 ghost use mathlib.Core.List.{[], _∷_, _++_};
-ghost use Prim.Native.Nat.{_%_};
+ghost use Prim.Native.Nat.{_/_, _%_};
 ghost use lib.Dec.{eqb};
 ghost use lib.ListN.{length};
+ghost use Rattle.std.specs.Options.{isSome, Cases as BySome};
 ghost use Rattle.std.specs.Vec.{made};
 ghost use Rattle.std.specs.shelf.Lists.{sum};
 ghost use Rattle.refusal.specs.declared.Refusal.the-variants.{Foreign, OddOrShort};
 ghost use Rattle.refusal.specs.Firsts.{firstOf, Tells};
 ghost use Rattle.frame.specs.Digits.{allDigits, bytesOf};
-ghost use Rattle.frame.specs.Lines.{digitsIn, lineOf};
-ghost use Rattle.frame.specs.Frames.{kindOf, payloadOf, Reads};
+ghost use Rattle.frame.specs.Kinds.{payloadLength};
+ghost use Rattle.frame.specs.Lines.{digitsIn, lineOf, kindRules};
+ghost use Rattle.frame.specs.Frames.{kindOf, digitsOf, placeOf, payloadOf, Reads};
 use crate::digits::digit;
 use crate::frames::Frame;
-use crate::kinds::frame_of;
+use crate::frames::Payload;
+use crate::kinds::Kind;
+use crate::kinds::payload_length;
 use refusal::Refusal;
 
 // A line without a line feed at its end.
@@ -50,6 +54,43 @@ fn sum_of(digits: &[u8]) -> Result<u8, Refusal>
         return Err(Refusal::Foreign);
     };
     Err(Refusal::OddOrShort)
+}
+
+// The frame of a kind byte, if there is such a kind.
+fn of_kind<'a>(kind: u8, payload: Payload<'a>) -> Option<Frame<'a>>
+    ensures { λ r. ⌜ BySome r (isSome (payloadLength kind) ≡ false) (λ f. (kindOf f ≡ kind) × (digitsOf f ≡ now (payload .entry .digits)) × (placeOf f ≡ payload .entry .place)) ⌝ }
+{
+    match kind {
+        1 => Some(Frame::Draw(payload)),
+        2 => Some(Frame::Arcs(payload)),
+        3 => Some(Frame::Propose(payload)),
+        4 => Some(Frame::Search(payload)),
+        5 => Some(Frame::Certify(payload)),
+        6 => Some(Frame::Fire(payload)),
+        7 => Some(Frame::Signal(payload)),
+        8 => Some(Frame::Halt(payload)),
+        9 => Some(Frame::Resume(payload)),
+        10 => Some(Frame::Home(payload)),
+        128..=138 => Some(Frame::Answer {
+            to: Kind::of(kind - 128),
+            payload,
+        }),
+        _ => None,
+    }
+}
+
+// The frame of a kind byte with the digits of its payload.
+fn frame_of<'a>(kind: u8, digits: &'a [u8], place: usize) -> Result<Frame<'a>, Refusal>
+    requires { ⌜ length (now digits) % 2 ≡ 0 ⌝ }
+    ensures { λ r. ⌜ Tells (firstOf (kindRules kind (length (now (digits .entry)) / 2))) r (λ f. (kindOf f ≡ kind) × (digitsOf f ≡ now (digits .entry)) × (placeOf f ≡ place)) (Unit {0}) ⌝ }
+{
+    let Some(frame) = of_kind(kind, Payload { digits, place }) else {
+        return Err(Refusal::UnknownKind);
+    };
+    if payload_length(kind) != Some(digits.len() / 2) {
+        return Err(Refusal::WrongLength);
+    }
+    Ok(frame)
 }
 
 // The frame of a line that stands at `place` in the input, or what is wrong with the line.

@@ -3,11 +3,13 @@ ghost use mathlib.Core.Path.{_≡_};
 ghost use Prim.Native.Nat.{_*_, _+_, _≤_, _<_};
 ghost use lib.ListN.{length, getD};
 ghost use Rattle.frame.specs.Digits.{numberOf, bytesOf};
-ghost use Rattle.frame.specs.Frames.{kindOf, digitsOf, placeOf};
+ghost use Rattle.frame.specs.Frames.{kindOf, digitsOf, placeOf, payloadOf};
 ghost use Rattle.frame.specs.Requests.{setAt, requestOf};
 use crate::digits::digit;
 use crate::frames::Frame;
 use crate::frames::Payload;
+use crate::kinds::Kind;
+use crate::kinds::KindDebug;
 
 #[derive(Clone, Copy, Debug)]
 pub enum Request {
@@ -21,7 +23,7 @@ pub enum Request {
     Halt,
     Resume,
     Home,
-    Answer { kind: u8, result: u8, detail: u8, lit: u64 },
+    Answer { to: Option<Kind>, result: u8, detail: u8, lit: u64 },
 }
 
 // The number of a digit.
@@ -73,7 +75,8 @@ impl<'a> Frame<'a> {
             Frame::Halt(_) => 8,
             Frame::Resume(_) => 9,
             Frame::Home(_) => 10,
-            Frame::Answer { kind, payload: _ } => kind,
+            Frame::Answer { to: None, payload: _ } => 128,
+            Frame::Answer { to: Some(kind), payload: _ } => 128 + kind.byte(),
         }
     }
 
@@ -92,7 +95,7 @@ impl<'a> Frame<'a> {
             Frame::Halt(payload) => payload,
             Frame::Resume(payload) => payload,
             Frame::Home(payload) => payload,
-            Frame::Answer { kind: _, payload } => payload,
+            Frame::Answer { to: _, payload } => payload,
         }
     }
 
@@ -112,7 +115,7 @@ impl<'a> Frame<'a> {
 
     // What the frame says.
     pub fn request(self) -> Request
-        ensures { λ r. ⌜ r ≡ requestOf (self .entry) ⌝ }
+        ensures { λ r. ⌜ r ≡ requestOf (kindOf (self .entry)) (payloadOf (self .entry)) ⌝ }
     {
         match self {
             Frame::Draw(p) => Request::Draw {
@@ -136,8 +139,8 @@ impl<'a> Frame<'a> {
             Frame::Halt(_) => Request::Halt,
             Frame::Resume(_) => Request::Resume,
             Frame::Home(_) => Request::Home,
-            Frame::Answer { kind, payload: p } => Request::Answer {
-                kind,
+            Frame::Answer { to, payload: p } => Request::Answer {
+                to,
                 result: p.byte(0),
                 detail: p.byte(1),
                 lit: p.set(2),
