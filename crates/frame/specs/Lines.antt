@@ -1,6 +1,7 @@
 -- Lines of a job, and the bytes that they stand for.
 --   digitsIn       the digits of a line: all of it but a line feed at its end
 --   kindIn         the kind that the first two digits stand for
+--   payloadIn      the payload: the bytes between the kind and the check byte
 --   checkOf        the check byte: with it the bytes sum to 0 modulo 256
 --   lineOf         the line of a kind and a payload: kind, payload and check byte in digits, and a line feed
 --   isLong         whether a payload of n bytes is as long as its kind asks
@@ -10,7 +11,7 @@ use mathlib.Core.Bool.{Bool, false, cond, not, _||_}
 use mathlib.Core.List.{List, [], _∷_, _++_}
 use Prim.Native.Nat.{ℕ, _+_, _-_, _%_}
 use lib.Dec.{eqb, ltb}
-use lib.ListN.{length, getD, take}
+use lib.ListN.{length, getD, take, drop}
 use Rattle.std.specs.Options.{isSome}
 use Rattle.std.specs.shelf.Lists.{sum}
 use Rattle.std.specs.declared.option.Option.{Option}
@@ -26,6 +27,9 @@ digitsIn line = cond (eqb (getD line (length line - 1) 0) 10) (take (length line
 
 abbrev pub kindIn : List ℕ → ℕ
 kindIn ds = getD (bytesOf ds) 0 0
+
+abbrev pub payloadIn : List ℕ → List ℕ
+payloadIn ds = bytesOf (take (length ds - 4) (drop 2 ds))
 
 abbrev pub checkOf : List ℕ → ℕ
 checkOf bytes = (256 - sum bytes % 256) % 256
