@@ -3,7 +3,7 @@ ghost use mathlib.Core.Path.{_≡_};
 ghost use Rattle.frame.specs.Kinds.{byteOf, kindFrom, payloadLength};
 
 // What a line asks for. Its answer has the byte of its kind plus 128.
-#[derive(Clone, Copy, Debug)]
+#[derive(Clone, Copy)]
 pub enum Kind {
     Draw,
     Arcs,

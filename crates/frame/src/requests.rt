@@ -9,9 +9,8 @@ use crate::digits::digit;
 use crate::frames::Frame;
 use crate::frames::Payload;
 use crate::kinds::Kind;
-use crate::kinds::KindDebug;
 
-#[derive(Clone, Copy, Debug)]
+#[derive(Clone, Copy)]
 pub enum Request {
     Draw { places: u8, transitions: u8, marks: u64 },
     Arcs { transition: u8, taken: u64, given: u64 },
