@@ -6,21 +6,20 @@ use Prim.Native.Nat.{ℕ, suc, _+_, _-_, _*_, _/_, _%_, _≤_, _<_}
 use native.Mathlib.Omega.{arith}
 use lib.Dec.{eqb, ltb}
 use lib.ListN.{length, getD, take, drop}
-use Rattle.std.specs.Results.{Cases}
+use Rattle.std.specs.Results.{Cases, isOk}
 use Rattle.std.specs.Vec.{made}
 use Rattle.std.specs.shelf.Lists.{sum, All}
-use Rattle.std.specs.declared.option.Option.the-variants.{Some, None}
 use Rattle.std.specs.declared.result.Result.{Result}
 use Rattle.std.specs.declared.result.Result.the-variants.{Ok, Err}
 use Rattle.std.proofs.shelf.Elements.{all-append}
 use Rattle.std.proofs.shelf.Lists.{take-append-drop, take-at, drop-at, drop-drop, getD-at, length-push, length-append, length-drop, length-take-le}
-use Rattle.std.proofs.shelf.Tests.{cond-true, eqb-true, eqb-false, ltb-false, not-false, or-parts}
+use Rattle.std.proofs.shelf.Tests.{false≢true, cond-true, eqb-true, eqb-false, ltb-false, not-false, or-parts}
 use Rattle.refusal.specs.declared.Refusal.{Refusal}
 use Rattle.refusal.specs.declared.Refusal.the-variants.{Foreign, OddOrShort, WrongCheck}
-use Rattle.refusal.specs.Firsts.{firstOf, Tells}
-use Rattle.refusal.proofs.Firsts.{none-applies}
+use Rattle.refusal.specs.Outcomes.{Outcome, refuse-if}
+use Rattle.refusal.proofs.Outcomes.{accepted-past-if}
 use Rattle.frame.specs.Digits.{allDigits, numberOf, bytesOf, charOf, hexOf}
-use Rattle.frame.specs.Lines.{digitsIn, kindIn, checkOf, lineOf, kindRules, faultIn}
+use Rattle.frame.specs.Lines.{digitsIn, kindIn, checkOf, lineOf, checkKind, checkDigits}
 use Rattle.frame.specs.declared.frames.Frame.{Frame}
 use Rattle.frame.specs.Frames.{kindOf, digitsOf, placeOf, payloadOf, Reads, DigitsRead, ReadsAs}
 use Rattle.frame.proofs.Readings.{Paired, right-check, length-bytes}
@@ -41,7 +40,7 @@ digits-of-line kind payload =
     cond-true (eqb (getD (ds ++ 10 ∷ []) (length (ds ++ 10 ∷ []) - 1) 0) 10) (take (length (ds ++ 10 ∷ []) - 1) (ds ++ 10 ∷ [])) (ds ++ 10 ∷ []) feed
     ∙ take-at ds (10 ∷ []) (length (ds ++ 10 ∷ []) - 1) (sym last)
 
-module _ (kind : ℕ) (payload : List ℕ) (byte : kind < 256) (bytes : Bytes payload) (fits : firstOf (kindRules kind (length payload)) ≡ None) where
+module _ (kind : ℕ) (payload : List ℕ) (byte : kind < 256) (bytes : Bytes payload) (fits : checkKind kind (length payload) (Ok tt) ≡ Ok tt) where
   abbrev ds : List ℕ
   ds = hexOf (whole kind payload)
 
@@ -57,11 +56,11 @@ module _ (kind : ℕ) (payload : List ℕ) (byte : kind < 256) (bytes : Bytes pa
   paired : Paired ds
   paired = let h = length-hex (whole kind payload) in let l = long in (hex-digits (whole kind payload) whole-bytes, omega arith, omega arith)
 
-  pub faultless : faultIn ds ≡ None
+  pub faultless : checkDigits ds ≡ Ok tt
   faultless =
       let n : length (bytesOf ds) - 2 ≡ length payload = let l = long in omega (arith, ap length back) in
       right-check ds paired (ap (λ l. sum l % 256) back ∙ check-sums (kind ∷ payload))
-      ∙ ap₂ (λ k m. firstOf (kindRules k m)) (ap (λ l. getD l 0 0) back) n ∙ fits
+      ∙ ap₂ (λ k m. checkKind k m (Ok tt)) (ap (λ l. getD l 0 0) back) n ∙ fits
 
   payload-digits : take (length ds - 4) (drop 2 ds) ≡ hexOf payload
   payload-digits =
@@ -76,10 +75,7 @@ module _ (kind : ℕ) (payload : List ℕ) (byte : kind < 256) (bytes : Bytes pa
     where
       answer : (r : Result Frame Refusal) → DigitsRead ds place r → Cases r (λ f. (kindOf f ≡ kind) × (payloadOf f ≡ payload) × (placeOf f ≡ place)) (λ _. ⊥)
       answer (Ok f) (none, (k, d, p)) = (k ∙ ap (λ l. getD l 0 0) back, ap bytesOf (d ∙ payload-digits) ∙ bytes-hex payload bytes, p)
-      answer (Err e) (some, u) = let z : _≡_ {A = ℕ} 0 1 = absurd-none (sym faultless ∙ some) in omega arith
-        where
-          absurd-none : _≡_ {A = Rattle.std.specs.declared.option.Option.Option Refusal} None (Some e) → _≡_ {A = ℕ} 0 1
-          absurd-none x = cc
+      answer (Err why) (refused, u) = false≢true (ap isOk (sym refused ∙ faultless))
 
 -- ---- read, then written
 
@@ -115,14 +111,14 @@ read-writes ds (all, even, four) right =
     ∙ ap (λ l. l ++ 10 ∷ []) (hex-bytes ds all even)
 
 -- what makes up a line in which nothing is wrong
-pub faultless-parts : (ds : List ℕ) → faultIn ds ≡ None → Paired ds × (sum (bytesOf ds) % 256 ≡ 0)
+pub faultless-parts : (ds : List ℕ) → checkDigits ds ≡ Ok tt → Paired ds × (sum (bytesOf ds) % 256 ≡ 0)
 faultless-parts ds none =
-    let rules = kindRules (kindIn ds) (length (bytesOf ds) - 2) in
+    let kind-checked = checkKind (kindIn ds) (length (bytesOf ds) - 2) (Ok tt) in
     let wrong = not (eqb (sum (bytesOf ds) % 256) 0) in
     let odd-or-short = eqb (length ds % 2) 1 || ltb (length ds) 4 in
-    let (digits, one) = none-applies (not (allDigits ds)) Foreign ((odd-or-short, OddOrShort) ∷ ((wrong, WrongCheck) ∷ rules)) none in
-    let (pairs, two) = none-applies odd-or-short OddOrShort ((wrong, WrongCheck) ∷ rules) one in
-    let (check, three) = none-applies wrong WrongCheck rules two in
+    let (digits, one) = accepted-past-if (not (allDigits ds)) Foreign (refuse-if odd-or-short OddOrShort (refuse-if wrong WrongCheck kind-checked)) none in
+    let (pairs, two) = accepted-past-if odd-or-short OddOrShort (refuse-if wrong WrongCheck kind-checked) one in
+    let (check, three) = accepted-past-if wrong WrongCheck kind-checked two in
     let (even, four) = or-parts (eqb (length ds % 2) 1) (ltb (length ds) 4) pairs in
     let ne : length ds % 2 ≡ 1 → ⊥ = eqb-false (length ds % 2) 1 even in
     ((not-false (allDigits ds) digits, omega arith, ltb-false (length ds) 4 four), eqb-true _ 0 (not-false _ check))

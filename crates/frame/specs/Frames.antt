@@ -14,9 +14,9 @@ use mathlib.Core.Path.{_≡_}
 use Rattle.std.specs.Results.{Cases}
 use Rattle.std.specs.declared.result.Result.{Result}
 use Rattle.refusal.specs.declared.Refusal.{Refusal}
-use Rattle.refusal.specs.Firsts.{Tells}
+use Rattle.refusal.specs.Outcomes.{Tells}
 use Rattle.frame.specs.Digits.{bytesOf}
-use Rattle.frame.specs.Lines.{digitsIn, kindIn, faultIn}
+use Rattle.frame.specs.Lines.{digitsIn, kindIn, checkDigits}
 use Rattle.std.specs.declared.option.Option.{Option}
 use Rattle.std.specs.declared.option.Option.the-variants.{Some, None}
 use Rattle.frame.specs.declared.kinds.Kind.{Kind}
@@ -69,7 +69,7 @@ placeOf (Home p) = p .place
 placeOf (Answer to p) = p .place
 
 abbrev pub DigitsRead : List ℕ → ℕ → Result Frame Refusal → Type 0
-DigitsRead ds place r = Tells (faultIn ds) r (λ f. (kindOf f ≡ kindIn ds) × (digitsOf f ≡ take (length ds - 4) (drop 2 ds)) × (placeOf f ≡ place)) (Unit {0})
+DigitsRead ds place r = Tells (checkDigits ds) r (λ f. (kindOf f ≡ kindIn ds) × (digitsOf f ≡ take (length ds - 4) (drop 2 ds)) × (placeOf f ≡ place)) (Unit {0})
 
 abbrev pub Reads : List ℕ → ℕ → Result Frame Refusal → Type 0
 Reads line place r = DigitsRead (digitsIn line) place r

@@ -5,8 +5,8 @@
 --   checkOf        the check byte: with it the bytes sum to 0 modulo 256
 --   lineOf         the line of a kind and a payload: kind, payload and check byte in digits, and a line feed
 --   isLong         whether a payload of n bytes is as long as its kind asks
---   kindRules      what can be wrong with a kind and the length of its payload
---   faultIn        what is wrong with the digits of a line, if anything: the first that applies
+--   checkKind      refused where there is no such kind or its payload is not so long, and else what comes next
+--   checkDigits    what is wrong with the digits of a line, if anything
 use mathlib.Core.Bool.{Bool, false, cond, not, _||_}
 use mathlib.Core.List.{List, [], _∷_, _++_}
 use Prim.Native.Nat.{ℕ, _+_, _-_, _%_}
@@ -16,9 +16,9 @@ use Rattle.std.specs.Options.{isSome}
 use Rattle.std.specs.shelf.Lists.{sum}
 use Rattle.std.specs.declared.option.Option.{Option}
 use Rattle.std.specs.declared.option.Option.the-variants.{Some, None}
-use Rattle.refusal.specs.declared.Refusal.{Refusal}
+use Rattle.std.specs.declared.result.Result.the-variants.{Ok}
 use Rattle.refusal.specs.declared.Refusal.the-variants.{Foreign, OddOrShort, WrongCheck, UnknownKind, WrongLength}
-use Rattle.refusal.specs.Firsts.{firstOf}
+use Rattle.refusal.specs.Outcomes.{Outcome, refuse-if}
 use Rattle.frame.specs.Kinds.{payloadLength}
 use Rattle.frame.specs.Digits.{allDigits, bytesOf, hexOf}
 
@@ -44,12 +44,12 @@ isThis n (Some m) = eqb n m
 abbrev pub isLong : ℕ → ℕ → Bool
 isLong kind n = isThis n (payloadLength kind)
 
-abbrev pub kindRules : ℕ → ℕ → List (Bool × Refusal)
-kindRules kind n = (not (isSome (payloadLength kind)), UnknownKind) ∷ ((not (isLong kind n), WrongLength) ∷ [])
+abbrev pub checkKind : ℕ → ℕ → Outcome → Outcome
+checkKind kind n next = refuse-if (not (isSome (payloadLength kind))) UnknownKind (refuse-if (not (isLong kind n)) WrongLength next)
 
-abbrev pub faultIn : List ℕ → Option Refusal
-faultIn ds =
-    firstOf ((not (allDigits ds), Foreign)
-    ∷ ((eqb (length ds % 2) 1 || ltb (length ds) 4, OddOrShort)
-    ∷ ((not (eqb (sum (bytesOf ds) % 256) 0), WrongCheck)
-    ∷ kindRules (kindIn ds) (length (bytesOf ds) - 2))))
+abbrev pub checkDigits : List ℕ → Outcome
+checkDigits ds =
+    refuse-if (not (allDigits ds)) Foreign (
+    refuse-if (eqb (length ds % 2) 1 || ltb (length ds) 4) OddOrShort (
+    refuse-if (not (eqb (sum (bytesOf ds) % 256) 0)) WrongCheck (
+    checkKind (kindIn ds) (length (bytesOf ds) - 2) (Ok tt))))

@@ -7,12 +7,13 @@ ghost use lib.Dec.{eqb};
 ghost use lib.ListN.{length};
 ghost use Rattle.std.specs.Options.{isSome, Cases as BySome};
 ghost use Rattle.std.specs.Vec.{made};
+ghost use Rattle.std.specs.declared.result.Result.the-variants.{Ok as Fine};
 ghost use Rattle.std.specs.shelf.Lists.{sum};
 ghost use Rattle.refusal.specs.declared.Refusal.the-variants.{Foreign, OddOrShort};
-ghost use Rattle.refusal.specs.Firsts.{firstOf, Tells};
+ghost use Rattle.refusal.specs.Outcomes.{refuse-if, Tells};
 ghost use Rattle.frame.specs.Digits.{allDigits, bytesOf};
 ghost use Rattle.frame.specs.Kinds.{payloadLength};
-ghost use Rattle.frame.specs.Lines.{digitsIn, lineOf, kindRules};
+ghost use Rattle.frame.specs.Lines.{digitsIn, lineOf, checkKind};
 ghost use Rattle.frame.specs.Frames.{kindOf, digitsOf, placeOf, payloadOf, Reads};
 use crate::digits::digit;
 use crate::frames::Frame;
@@ -33,7 +34,7 @@ fn digits_in(line: &[u8]) -> &[u8]
 
 // The sum of the bytes that digits stand for, modulo 256.
 fn sum_of(digits: &[u8]) -> Result<u8, Refusal>
-    ensures { λ r. ⌜ Tells (firstOf ((not (allDigits (now (digits .entry))), Foreign) ∷ ((eqb (length (now (digits .entry)) % 2) 1, OddOrShort) ∷ []))) r (λ s. s ≡ sum (bytesOf (now (digits .entry))) % 256) (Unit {0}) ⌝ }
+    ensures { λ r. ⌜ Tells (refuse-if (not (allDigits (now (digits .entry)))) Foreign (refuse-if (eqb (length (now (digits .entry)) % 2) 1) OddOrShort (Fine tt))) r (λ s. s ≡ sum (bytesOf (now (digits .entry))) % 256) (Unit {0}) ⌝ }
 {
     let mut sum = 0u8;
     let mut rest = digits;
@@ -82,7 +83,7 @@ fn of_kind<'a>(kind: u8, payload: Payload<'a>) -> Option<Frame<'a>>
 // The frame of a kind byte with the digits of its payload.
 fn frame_of<'a>(kind: u8, digits: &'a [u8], place: usize) -> Result<Frame<'a>, Refusal>
     requires { ⌜ length (now digits) % 2 ≡ 0 ⌝ }
-    ensures { λ r. ⌜ Tells (firstOf (kindRules kind (length (now (digits .entry)) / 2))) r (λ f. (kindOf f ≡ kind) × (digitsOf f ≡ now (digits .entry)) × (placeOf f ≡ place)) (Unit {0}) ⌝ }
+    ensures { λ r. ⌜ Tells (checkKind kind (length (now (digits .entry)) / 2) (Fine tt)) r (λ f. (kindOf f ≡ kind) × (digitsOf f ≡ now (digits .entry)) × (placeOf f ≡ place)) (Unit {0}) ⌝ }
 {
     let Some(frame) = of_kind(kind, Payload { digits, place }) else {
         return Err(Refusal::UnknownKind);

@@ -3,9 +3,9 @@ use Prim.Native.Nat.{ℕ, _≤_, _<_}
 use native.Mathlib.Omega.{arith}
 use lib.ListN.{length, getD}
 use borrow.Author.Needs.{needs}
-use Rattle.std.specs.declared.option.Option.the-variants.{Some}
+use Rattle.std.specs.declared.result.Result.the-variants.{Err}
 use Rattle.refusal.specs.declared.Refusal.the-variants.{WrongCheck}
-use Rattle.frame.specs.Lines.{faultIn}
+use Rattle.frame.specs.Lines.{checkDigits}
 use Rattle.frame.specs.Frames.{DigitsRead, Reads}
 use Rattle.frame.proofs.Hex.{Front, digit-small}
 use Rattle.frame.proofs.Again.{result-writes}
@@ -19,7 +19,7 @@ returns-then-sum-ne0 c =
     let (digits, even) = sum-passes ds none in
     let long : 4 ≤ length ds = search needs in
     record {
-      reads = (subst (λ l. faultIn l ≡ Some WrongCheck) (c .digits-in-digits .ensures) (wrong-check ds (digits, even, long) (λ e. c .if-sum-ne0 .taken (is ∙ e))), tt);
+      reads = (subst (λ l. checkDigits l ≡ Err WrongCheck) (c .digits-in-digits .ensures) (wrong-check ds (digits, even, long) (λ e. c .if-sum-ne0 .taken (is ∙ e))), tt);
       writes-again = tt;
     }
 

@@ -7,7 +7,8 @@ use lib.Dec.{eqb}
 use lib.ListN.{length, drop, take}
 use borrow.Author.Needs.{needs}
 use Rattle.std.specs.shelf.Lists.{sum}
-use Rattle.std.specs.declared.option.Option.the-variants.{Some, None}
+use Rattle.std.specs.declared.result.Result.the-variants.{Ok}
+use Rattle.refusal.specs.Outcomes.{refuse-if}
 use Rattle.refusal.specs.declared.Refusal.the-variants.{Foreign, OddOrShort}
 use Rattle.std.proofs.shelf.Lists.{take-rest, nil-from-length, length-drop}
 use Rattle.std.proofs.shelf.Tests.{ne-eqb}
@@ -37,5 +38,5 @@ returns-in-rest-rest c =
     let none = nil-from-length rest (omega arith) in
     let even : length (c .args .digits .now) % 2 ≡ 0 = omega arith in
     let here : sum (bytesOf rest) ≡ 0 = ap (λ l. sum (bytesOf l)) none in
-    (ap₂ (λ x y. cond (not x) (Some Foreign) (cond (eqb y 1) (Some OddOrShort) None)) (sym (inv .0) ∙ ap allDigits none) even,
+    (ap₂ (λ x y. refuse-if (not x) Foreign (refuse-if (eqb y 1) OddOrShort (Ok tt))) (sym (inv .0) ∙ ap allDigits none) even,
      sym (mod-eq-of-lt (inv .2)) ∙ ap (λ n. n % 256) (omega arith) ∙ inv .3)
