@@ -9,3 +9,5 @@ pub mod Known
 pub mod Listed
 pub mod Kept
 pub mod Lows
+pub mod Trailing
+pub mod Drawn

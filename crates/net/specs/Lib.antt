@@ -3,4 +3,6 @@ pub mod Sums
 pub mod Lowest
 pub mod Arcs
 pub mod Nets
+pub mod Outcomes
+pub mod Drawings
 pub mod Strands
