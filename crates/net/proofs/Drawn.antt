@@ -46,11 +46,11 @@ pub arcs-set : (p i a b : ℕ) (takes gives : List ℕ) → i < length takes →
 arcs-set p i a b takes gives lt lg ha hb none old t =
     ⊎-elim
     (λ e. let x : getD (set takes i a) t 0 ≡ a = ap (λ k. getD (set takes i a) k 0) e ∙ getD-set-same takes i a 0 lt in
-          let y : getD (set gives i b) t 0 ≡ b = ap (λ k. getD (set gives i b) k 0) e ∙ getD-set-same gives i b 0 lg in
-          (omega (arith, x), omega (arith, y), rw (x, y) none))
+    let y : getD (set gives i b) t 0 ≡ b = ap (λ k. getD (set gives i b) k 0) e ∙ getD-set-same gives i b 0 lg in
+    (omega (arith, x), omega (arith, y), rw (x, y) none))
     (λ ne. let x = getD-set-other takes i t a 0 ne in
-           let y = getD-set-other gives i t b 0 ne in
-           rw (x, y) (old t))
+    let y = getD-set-other gives i t b 0 ne in
+    rw (x, y) (old t))
     (cases-eq t i)
 
 pub ended-set : (m i a b : ℕ) (takes gives : List ℕ) → i < m → Ended m takes gives → Ended m (set takes i a) (set gives i b)

@@ -9,7 +9,11 @@ ghost use Rattle.net.specs.Lowest.{Lowest};
 pub fn below(count: u8) -> u64
     ensures { λ r. ⌜ r ≡ 2 ^ min count 64 - 1 ⌝ }
 {
-    if count < 64 { (1 << count) - 1 } else { u64::MAX }
+    if count < 64 {
+        (1 << count) - 1
+    } else {
+        u64::MAX
+    }
 }
 
 // Whether each member of the set is below `count`.
