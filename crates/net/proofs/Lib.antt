@@ -9,6 +9,7 @@ pub mod Known
 pub mod Listed
 pub mod Kept
 pub mod Tokens
+pub mod Outcomes
 pub mod Lows
 pub mod Trailing
 pub mod Drawn

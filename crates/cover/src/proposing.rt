@@ -1,0 +1,80 @@
+// A net on a sheet, and the strands proposed for it.
+ghost use mathlib.Core.List.{[], _∷_, _++_};
+ghost use mathlib.Core.Path.{_≡_};
+ghost use lib.ListN.{length};
+ghost use Rattle.std.specs.Finite.{nth};
+ghost use Rattle.std.specs.Results.{Cases};
+ghost use Rattle.net.specs.Nets.{drawn};
+ghost use Rattle.net.specs.Outcomes.{Accepts};
+ghost use Rattle.cover.specs.Bare.{bare-places, NewStrand, propose-outcome};
+ghost use Rattle.cover.specs.Sheets.{sheet-net, sheet-strands};
+use crate::checking::check;
+use crate::sheet::Sheet;
+use net::Net;
+use net::below;
+use refusal::Refusal;
+
+impl Sheet {
+    // Moves the net onto a sheet with no strands.
+    pub fn new(net: Net) -> Sheet
+        ensures held { λ r. ⌜ sheet-net r ≡ drawn net ⌝ }
+        ensures empty { λ r. ⌜ sheet-strands r ≡ [] ⌝ }
+    {
+        let bare = below(net.places());
+        Sheet {
+            net,
+            strands: [0; 64],
+            count: 0,
+            bare,
+        }
+    }
+
+    // Adds the set to the strands, if it is a strand with a bare place in it.
+    pub fn propose(&mut self, set: u64) -> Result<(), Refusal>
+        ensures answer { λ r. ⌜ r ≡ propose-outcome (sheet-net (now (self .entry))) (sheet-strands (now (self .entry))) set ⌝ }
+        ensures strand { λ r. ⌜ Accepts r (NewStrand (sheet-net (now (self .entry))) (sheet-strands (now (self .entry))) set) ⌝ }
+        ensures after { λ r. ⌜ Cases r (λ _. sheet-strands (now (self .exit)) ≡ sheet-strands (now (self .entry)) ++ set ∷ []) (λ _. now (self .exit) ≡ now (self .entry)) ⌝ }
+        ensures net { λ r. ⌜ sheet-net (now (self .exit)) ≡ sheet-net (now (self .entry)) ⌝ }
+    {
+        check(&self.net, set)?;
+        if self.bare & set == 0 {
+            return Err(Refusal::NoBarePlace);
+        }
+        self.strands[self.count as usize] = set;
+        self.count += 1;
+        self.bare ^= self.bare & set;
+        Ok(())
+    }
+
+    // The net on the sheet.
+    pub fn net(&self) -> &Net
+        ensures { λ r. ⌜ drawn (now r) ≡ sheet-net (now (self .entry)) ⌝ }
+    {
+        &self.net
+    }
+
+    // How many strands are on the sheet.
+    pub fn count(&self) -> u8
+        ensures { λ r. ⌜ r ≡ length (sheet-strands (now (self .entry))) ⌝ }
+    {
+        self.count
+    }
+
+    // Strand `k`, numbered from 0 in the order accepted, if there are so many.
+    pub fn strand(&self, k: u8) -> Option<u64>
+        ensures { λ r. ⌜ r ≡ nth (sheet-strands (now (self .entry))) k ⌝ }
+    {
+        if k < self.count {
+            Some(self.strands[k as usize])
+        } else {
+            None
+        }
+    }
+
+    // The set of the bare places.
+    pub fn bare(&self) -> u64
+        ensures { λ r. ⌜ r ≡ bare-places (sheet-net (now (self .entry))) (sheet-strands (now (self .entry))) ⌝ }
+    {
+        self.bare
+    }
+}
