@@ -3,6 +3,8 @@ mod certified;
 mod certifying;
 mod checking;
 mod proposing;
+mod reading_certified;
+mod reading_sheets;
 mod sheet;
 
 pub use certified::Certified;

@@ -29,22 +29,14 @@ impl Net {
     pub fn takes(&self, t: u8) -> u64
         ensures { λ r. ⌜ r ≡ drawn (now (self .entry)) .takes t ⌝ }
     {
-        if t < self.transitions {
-            self.takes[t as usize]
-        } else {
-            0
-        }
+        if t < 64 { self.takes[t as usize] } else { 0 }
     }
 
     // The places that transition `t` gives; none where there is no such transition.
     pub fn gives(&self, t: u8) -> u64
         ensures { λ r. ⌜ r ≡ drawn (now (self .entry)) .gives t ⌝ }
     {
-        if t < self.transitions {
-            self.gives[t as usize]
-        } else {
-            0
-        }
+        if t < 64 { self.gives[t as usize] } else { 0 }
     }
 
     // The same net once more.
