@@ -62,12 +62,12 @@ module _ (n : PetriNet) (s : ℕ) where
       ∙ ap (λ b. refuse-if b PlaceOutside at-marks) (lt-leb (2 ^ n .places) s within)
       ∙ ap (λ b. refuse-if b TwoMarks at-transitions) (le-ltb 1 (size (intersection (n .marks) s)) marks)
 
-  -- and the fourth found o, where the places and the marks were read from the net
-  pub found-at : (places marks : ℕ) (o : Option ℕ) → places ≡ n .places → marks ≡ n .marks → (s ≡ 0 → ⊥) → s < 2 ^ places → size (intersection marks s) ≤ 1
+  -- and the fourth found o, where the number of places was read from the net
+  pub found-at : (places : ℕ) (o : Option ℕ) → places ≡ n .places → (s ≡ 0 → ⊥) → s < 2 ^ places → ltb 1 (size (intersection (n .marks) s)) ≡ false
       → o ≡ lowest (n .transitions) (λ t. not (even-and-thin-at n s t)) → refuse-at o NotEvenOrNotThin (Ok tt) ≡ check-outcome n s
-  found-at places marks o ps ms some within one is =
+  found-at places o ps some within one is =
       ap (λ x. refuse-at x NotEvenOrNotThin (Ok tt)) is
-      ∙ sym (past-the-marks some (subst (λ k. s < 2 ^ k) ps within) (subst (λ k. size (intersection k s) ≤ 1) ms one))
+      ∙ sym (past-the-marks some (subst (λ k. s < 2 ^ k) ps within) (ltb-false 1 (size (intersection (n .marks) s)) one))
 
   pub strand-passes : Strand n s → check-outcome n s ≡ Ok tt
   strand-passes strand =

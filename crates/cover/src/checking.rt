@@ -1,14 +1,23 @@
 // The check of a set of places: whether it is a strand.
 ghost use mathlib.Core.Path.{_≡_};
 ghost use mathlib.Core.Bool.{not};
+ghost use lib.Dec.{ltb};
 ghost use Rattle.net.specs.Lowest.{lowest};
 ghost use Rattle.net.specs.Nets.{drawn};
 ghost use Rattle.net.specs.Outcomes.{Accepts};
+ghost use Rattle.net.specs.Sets.{intersection, size};
 ghost use Rattle.net.specs.Strands.{Strand};
 ghost use Rattle.cover.specs.Checks.{even-and-thin-at, check-outcome};
 use net::Net;
 use net::within;
 use refusal::Refusal;
+
+// Whether two places of the set are marked.
+fn two_marks(net: &Net, set: u64) -> bool
+    ensures { λ r. ⌜ r ≡ ltb 1 (size (intersection (drawn (now (net .entry)) .marks) set)) ⌝ }
+{
+    (net.marks() & set).count_ones() > 1
+}
 
 // Whether the transition takes as many places of the set as it gives, and of each at most one.
 fn even_and_thin(net: &Net, set: u64, transition: u8) -> bool
@@ -42,7 +51,7 @@ pub fn check(net: &Net, set: u64) -> Result<(), Refusal>
     if !within(set, net.places()) {
         return Err(Refusal::PlaceOutside);
     }
-    if (net.marks() & set).count_ones() > 1 {
+    if two_marks(net, set) {
         return Err(Refusal::TwoMarks);
     }
     match lowest_failure(net, set) {

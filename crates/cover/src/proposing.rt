@@ -35,12 +35,13 @@ impl Sheet {
         ensures net { λ r. ⌜ sheet-net (now (self .exit)) ≡ sheet-net (now (self .entry)) ⌝ }
     {
         check(&self.net, set)?;
-        if self.bare & set == 0 {
+        let fresh = self.bare & set;
+        if fresh == 0 {
             return Err(Refusal::NoBarePlace);
         }
         self.strands[self.count as usize] = set;
         self.count += 1;
-        self.bare ^= self.bare & set;
+        self.bare ^= fresh;
         Ok(())
     }
 }

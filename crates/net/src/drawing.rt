@@ -7,6 +7,9 @@ use crate::net::Net;
 use crate::sets::within;
 use refusal::Refusal;
 
+// A net has at most so many places, and at most so many transitions.
+const MOST: u8 = 64;
+
 impl Net {
     // The net of 0 places and 0 transitions.
     pub fn new() -> Net
@@ -27,10 +30,10 @@ impl Net {
         ensures answer { λ r. ⌜ r ≡ draw-outcome places transitions marks ⌝ }
         ensures after { λ r. ⌜ Cases r (λ _. drawn (now (self .exit)) ≡ without-arcs places transitions marks) (λ _. now (self .exit) ≡ now (self .entry)) ⌝ }
     {
-        if places > 64 {
+        if places > MOST {
             return Err(Refusal::TooManyPlaces);
         }
-        if transitions > 64 {
+        if transitions > MOST {
             return Err(Refusal::TooManyTransitions);
         }
         if !within(marks, places) {

@@ -1,4 +1,4 @@
-use mathlib.Core.Path.{_≡_, refl}
+use mathlib.Core.Path.{_≡_, refl, sym}
 use Rattle.std.specs.declared.option.Option.the-variants.{Some, None}
 use Rattle.std.specs.declared.result.Result.the-variants.{Ok, Err}
 use Rattle.refusal.specs.declared.Refusal.the-variants.{NotEvenOrNotThin}
@@ -14,7 +14,7 @@ returns-in-Some c =
     let s = c .args .set in
     let r : Outcome = Err (NotEvenOrNotThin (c .in-Some .transition)) in
     let answer : r ≡ check-outcome n s =
-    found-at n s (c .places .result) (c .marks .result) (Some (c .in-Some .transition)) (c .places .ensures) (c .marks .ensures) (c .if-set-eq0 .left) (c .if-not-within .ensures tt .0 refl) (c .if-marks-set-gt1 .left) (c .in-Some .ensures tt) in
+    found-at n s (c .places .result) (Some (c .in-Some .transition)) (c .places .ensures) (c .if-set-eq0 .left) (c .if-not-within .ensures tt .0 refl) (sym (c .if-two-marks .ensures tt)) (c .in-Some .ensures tt) in
     record { answer = answer; strand = strand-cases n s r answer }
 
 pub returns-in-None : need.returns-in-None
@@ -23,5 +23,5 @@ returns-in-None c =
     let s = c .args .set in
     let r : Outcome = Ok tt in
     let answer : r ≡ check-outcome n s =
-    found-at n s (c .places .result) (c .marks .result) None (c .places .ensures) (c .marks .ensures) (c .if-set-eq0 .left) (c .if-not-within .ensures tt .0 refl) (c .if-marks-set-gt1 .left) (c .in-None .ensures tt) in
+    found-at n s (c .places .result) None (c .places .ensures) (c .if-set-eq0 .left) (c .if-not-within .ensures tt .0 refl) (sym (c .if-two-marks .ensures tt)) (c .in-None .ensures tt) in
     record { answer = answer; strand = strand-cases n s r answer }

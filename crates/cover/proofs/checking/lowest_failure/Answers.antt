@@ -2,6 +2,7 @@ use mathlib.Core.Path.{_≡_, sym, ap, _∙_, subst}
 use mathlib.Core.Bool.{Bool, not}
 use Prim.Native.Nat.{ℕ, _<_}
 use native.Mathlib.Numerals.{add-one}
+use native.Mathlib.Omega.{arith}
 use Rattle.std.specs.declared.option.Option.the-variants.{None}
 use Rattle.net.specs.Lowest.{lowest}
 use Rattle.net.specs.Nets.{drawn}
@@ -22,5 +23,5 @@ pub returns-then-not-even-and-thin : need.returns-then-not-even-and-thin
 returns-then-not-even-and-thin c =
     let n = drawn (c .args .net .now) in
     let t = c .loop-transition .transition in
-    let there : t < n .transitions = subst (λ k. t < k) (c .transitions-transition-end .ensures) (c .loop-transition-test .taken) in
+    let there : t < n .transitions = omega arith in
     sym (lowest-found (n .transitions) (λ u. not (even-and-thin-at n (c .args .set) u)) t there (sym (ap not (c .if-not-even-and-thin .ensures tt))) (c .loop-transition .inv))
