@@ -10,3 +10,6 @@ mod sheet;
 pub use certified::Certified;
 pub use checking::check;
 pub use sheet::Sheet;
+
+#[cfg(test)]
+mod tests;
