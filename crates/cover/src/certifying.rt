@@ -1,13 +1,12 @@
 // Nets that are certified by a cover.
 ghost use mathlib.Core.List.{[]};
 ghost use mathlib.Core.Path.{_≡_};
-ghost use Rattle.std.specs.Results.{Cases};
 ghost use Rattle.std.specs.Vec.{made};
 ghost use Rattle.net.specs.Counting.{Safe, ContactFree};
 ghost use Rattle.net.specs.Drawings.{without-arcs};
 ghost use Rattle.net.specs.Outcomes.{Accepts};
 ghost use Rattle.net.specs.Strands.{Cover};
-ghost use Rattle.cover.specs.Certificates.{certified-net, certified-strands, certify-outcome};
+ghost use Rattle.cover.specs.Certificates.{certified-net, certified-strands, certify-outcome, TakenOver};
 ghost use Rattle.cover.specs.Sheets.{sheet-net, sheet-strands};
 use crate::certified::Certified;
 use crate::sheet::Sheet;
@@ -32,7 +31,7 @@ impl Certified {
     pub fn certify(&mut self, sheet: Sheet) -> Result<(), Refusal>
         ensures answer { λ r. ⌜ r ≡ certify-outcome (sheet-net sheet) (sheet-strands sheet) ⌝ }
         ensures covered { λ r. ⌜ Accepts r (Cover (sheet-net sheet) (sheet-strands sheet)) ⌝ }
-        ensures after { λ r. ⌜ Cases r (λ _. (certified-net (now (self .exit)) ≡ sheet-net sheet) × (certified-strands (now (self .exit)) ≡ sheet-strands sheet)) (λ _. now (self .exit) ≡ now (self .entry)) ⌝ }
+        ensures after { λ r. ⌜ TakenOver (now (self .entry)) sheet r (now (self .exit)) ⌝ }
         ensures safe { λ r. ⌜ made r (λ _. Safe (sheet-net sheet) × ContactFree (sheet-net sheet)) ⌝ }
     {
         match lowest(sheet.bare) {

@@ -1,11 +1,10 @@
 // A net on a sheet, and the strands proposed for it.
-ghost use mathlib.Core.List.{[], _∷_, _++_};
+ghost use mathlib.Core.List.{[]};
 ghost use mathlib.Core.Path.{_≡_};
-ghost use Rattle.std.specs.Results.{Cases};
 ghost use Rattle.net.specs.Nets.{drawn};
 ghost use Rattle.net.specs.Outcomes.{Accepts};
 ghost use Rattle.cover.specs.Bare.{NewStrand, propose-outcome};
-ghost use Rattle.cover.specs.Sheets.{sheet-net, sheet-strands};
+ghost use Rattle.cover.specs.Sheets.{sheet-net, sheet-strands, Proposed};
 use crate::checking::check;
 use crate::sheet::Sheet;
 use net::Net;
@@ -31,8 +30,7 @@ impl Sheet {
     pub fn propose(&mut self, set: u64) -> Result<(), Refusal>
         ensures answer { λ r. ⌜ r ≡ propose-outcome (sheet-net (now (self .entry))) (sheet-strands (now (self .entry))) set ⌝ }
         ensures strand { λ r. ⌜ Accepts r (NewStrand (sheet-net (now (self .entry))) (sheet-strands (now (self .entry))) set) ⌝ }
-        ensures after { λ r. ⌜ Cases r (λ _. sheet-strands (now (self .exit)) ≡ sheet-strands (now (self .entry)) ++ set ∷ []) (λ _. now (self .exit) ≡ now (self .entry)) ⌝ }
-        ensures net { λ r. ⌜ sheet-net (now (self .exit)) ≡ sheet-net (now (self .entry)) ⌝ }
+        ensures after { λ r. ⌜ Proposed (now (self .entry)) set r (now (self .exit)) ⌝ }
     {
         check(&self.net, set)?;
         let fresh = self.bare & set;

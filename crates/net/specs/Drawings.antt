@@ -3,14 +3,17 @@
 --   with-arcs      the net after transition t was given the sets that it takes and gives
 --   draw-outcome   the first refusal that applies to a drawing, or none
 --   arcs-outcome   the first refusal that applies to arcs of a net, or none
+--   Becomes        the net is the one asked for, or was refused and is as it was
+use mathlib.Core.Path.{_≡_}
 use mathlib.Core.Bool.{cond, not, _||_}
 use Prim.Native.Nat.{ℕ, _^_}
 use lib.Dec.{eqb, leb, ltb}
-use Rattle.std.specs.declared.result.Result.the-variants.{Ok}
+use Rattle.std.specs.declared.result.Result.the-variants.{Ok, Err}
 use Rattle.refusal.specs.declared.Refusal.the-variants.{TooManyPlaces, TooManyTransitions, MarkOutside, NoSuchTransition, ArcOutside, TakenAndGiven}
 use Rattle.net.specs.Sets.{intersection}
-use Rattle.net.specs.Nets.{PetriNet}
+use Rattle.net.specs.Nets.{PetriNet, drawn}
 use Rattle.net.specs.Outcomes.{Outcome, refuse-if}
+use Rattle.net.specs.declared.net.Net.{Net}
 
 abbrev pub without-arcs : ℕ → ℕ → ℕ → PetriNet
 without-arcs places transitions marks = record { places = places; transitions = transitions; marks = marks; takes = λ t. 0; gives = λ t. 0 }
@@ -39,3 +42,7 @@ arcs-outcome n t taken given =
     refuse-if (leb (2 ^ n .places) taken || leb (2 ^ n .places) given) ArcOutside (
     refuse-if (not (eqb (intersection taken given) 0)) TakenAndGiven (
     Ok tt)))
+
+abbrev pub Becomes : Net → PetriNet → Outcome → Net → Type 0
+Becomes old asked (Ok _) new = drawn new ≡ asked
+Becomes old asked (Err _) new = new ≡ old

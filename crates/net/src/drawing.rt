@@ -1,8 +1,7 @@
 // Drawing a net, and giving arcs to its transitions. The net is written whole, so that it keeps its invariant; a refused call leaves it as it was.
 ghost use mathlib.Core.Path.{_≡_};
-ghost use Rattle.std.specs.Results.{Cases};
 ghost use Rattle.net.specs.Nets.{drawn};
-ghost use Rattle.net.specs.Drawings.{without-arcs, with-arcs, draw-outcome, arcs-outcome};
+ghost use Rattle.net.specs.Drawings.{without-arcs, with-arcs, draw-outcome, arcs-outcome, Becomes};
 use crate::net::Net;
 use crate::sets::within;
 use refusal::Refusal;
@@ -28,7 +27,7 @@ impl Net {
     // Replaces the net by one of so many places and transitions, with these marked places and no arcs.
     pub fn draw(&mut self, places: u8, transitions: u8, marks: u64) -> Result<(), Refusal>
         ensures answer { λ r. ⌜ r ≡ draw-outcome places transitions marks ⌝ }
-        ensures after { λ r. ⌜ Cases r (λ _. drawn (now (self .exit)) ≡ without-arcs places transitions marks) (λ _. now (self .exit) ≡ now (self .entry)) ⌝ }
+        ensures after { λ r. ⌜ Becomes (now (self .entry)) (without-arcs places transitions marks) r (now (self .exit)) ⌝ }
     {
         if places > MOST {
             return Err(Refusal::TooManyPlaces);
@@ -53,7 +52,7 @@ impl Net {
     // Replaces the set that the transition takes, and the set that it gives.
     pub fn arcs(&mut self, transition: u8, taken: u64, given: u64) -> Result<(), Refusal>
         ensures answer { λ r. ⌜ r ≡ arcs-outcome (drawn (now (self .entry))) transition taken given ⌝ }
-        ensures after { λ r. ⌜ Cases r (λ _. drawn (now (self .exit)) ≡ with-arcs (drawn (now (self .entry))) transition taken given) (λ _. now (self .exit) ≡ now (self .entry)) ⌝ }
+        ensures after { λ r. ⌜ Becomes (now (self .entry)) (with-arcs (drawn (now (self .entry))) transition taken given) r (now (self .exit)) ⌝ }
     {
         if transition >= self.transitions {
             return Err(Refusal::NoSuchTransition);

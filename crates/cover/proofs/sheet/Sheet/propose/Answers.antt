@@ -24,7 +24,7 @@ returns-then-fresh-eq0 c =
     let answer : r ≡ propose-outcome n ss s =
     sym (ap (λ b. refuse-if b NoBarePlace (Ok tt)) (eq-eqb _ 0 (c .if-fresh-eq0 .taken)))
     ∙ answer-by-bare n ss s (old .bare) (old .bared) (c .in-Continue-check .field-0) (c .in-Continue-check .ensures tt .answer) in
-    record { answer = answer; strand = new-cases n ss s r answer; after = refl; net = refl }
+    record { answer = answer; strand = new-cases n ss s r answer; after = refl }
 
 pub index-self-self : need.index-self-self
 index-self-self c =
@@ -62,4 +62,4 @@ returns c =
     let answer : r ≡ propose-outcome n ss s =
     sym (ap (λ b. refuse-if b NoBarePlace (Ok tt)) (ne-eqb _ 0 (c .if-fresh-eq0 .left)))
     ∙ answer-by-bare n ss s (old .bare) (old .bared) (c .in-Continue-check .field-0) (c .in-Continue-check .ensures tt .answer) in
-    record { answer = answer; strand = new-cases n ss s r answer; after = take-more-set (old .strands) (old .count) s there; net = refl }
+    record { answer = answer; strand = new-cases n ss s r answer; after = (refl, take-more-set (old .strands) (old .count) s there) }
