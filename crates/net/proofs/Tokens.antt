@@ -6,12 +6,12 @@ use mathlib.Core.Logic.{_↔_}
 use Prim.Native.Nat.{ℕ, _+_, _-_, _<_, _≤_}
 use native.Mathlib.Omega.{arith}
 use lib.Dec.{T}
-use Rattle.net.specs.Sets.{has, In, one-in, size, intersection, difference, exchange, Subset}
+use Rattle.net.specs.Sets.{has, In, one-in, size, intersection, exchange, Subset}
 use Rattle.net.specs.Nets.{PetriNet, Kept}
 use Rattle.net.specs.Counting.{Marking, initial, Enabled, fired, Firable, after, Safe, ContactFree}
 use Rattle.net.specs.Strands.{Strand, HasCover}
 use Rattle.net.specs.Sums.{total}
-use Rattle.net.proofs.Bits.{has-intersection, has-union, has-difference}
+use Rattle.net.proofs.Bits.{has-intersection, has-exchange}
 use Rattle.net.proofs.Members.{has-in, in-below}
 use Rattle.net.proofs.Subsets.{intersection-first, subset-below}
 use Rattle.net.proofs.Sizes.{counts-once, counts-in, counts-out}
@@ -135,7 +135,7 @@ lines-follow n kept cover m one lit same t on p =
     ap (λ k. k - one-in (n .takes t) p + one-in (n .gives t) p) (same p)
     ∙ line (has lit p) (has (n .takes t) p) (has (n .gives t) p) (λ is. sym (same p) ∙ given-are-empty n kept cover m one t on p is)
     (apart-intersection (n .takes t) (n .gives t) .1 (kept .apart t) p)
-    ∙ ap (λ b. cond b 1 0) (sym (has-union (difference lit (n .takes t)) (n .gives t) p ∙ ap (λ b. b || has (n .gives t) p) (has-difference lit (n .takes t) p)))
+    ∙ ap (λ b. cond b 1 0) (sym (has-exchange lit (n .takes t) (n .gives t) p))
   where
     line : (l x y : Bool) → (T y → _≡_ {A = ℕ} (cond l 1 0) 0) → (T x → T y → ⊥) → cond l 1 0 - cond x 1 0 + cond y 1 0 ≡ cond ((l && not x) || y) 1 0
     line true true true empty apart = absurd (apart tt tt)
