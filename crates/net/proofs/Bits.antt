@@ -1,4 +1,4 @@
--- A number by its bits: what `has` answers, as a test, of `both`, `either`, `without`, 0 and 2 ^ p.
+-- A number by its bits: what `has` answers, as a test, of the intersection, the union and the difference of two sets, of 0 and of 2 ^ p.
 use mathlib.Core.Path.{_≡_, refl, sym, ap, ap₂, _∙_}
 use mathlib.Core.Bool.{Bool, true, false, cond, not, _&&_, _||_}
 use Prim.Native.Nat.{ℕ, zero, suc, _+_, _*_, _/_, _%_, _^_, _<_}
@@ -7,7 +7,7 @@ use native.Mathlib.Omega.{arith}
 use lib.Dec.{eqb, eqb·zero-suc, eqb·suc-zero, eqb·suc-suc}
 use lib.Bits.{bitAnd, bitOr, bitXor, and-shr, or-shr, xor-shr, and-mod, or-mod, xor-mod}
 use Rattle.std.proofs.shelf.Bits.{shr-shr, mod-below}
-use Rattle.net.specs.Sets.{has, intersection, union, difference}
+use Rattle.net.specs.Sets.{has, intersection, union, difference, exchange}
 
 -- the lowest bit, and the bits above it
 pub has-first : (s : ℕ) → has s 0 ≡ eqb (s % 2) 1
@@ -52,6 +52,9 @@ differs-and false y = refl
 
 pub has-difference : (a b p : ℕ) → has (difference a b) p ≡ (has a p && not (has b p))
 has-difference a b p = has-xor a (intersection a b) p ∙ ap (differs (has a p)) (has-intersection a b p) ∙ differs-and (has a p) (has b p)
+
+pub has-exchange : (s dark light p : ℕ) → has (exchange s dark light) p ≡ ((has s p && not (has dark p)) || has light p)
+has-exchange s dark light p = has-union (difference s dark) light p ∙ ap (λ b. b || has light p) (has-difference s dark p)
 
 pub has-none : (p : ℕ) → has 0 p ≡ false
 has-none p = ap (λ k. eqb (k % 2) 1) (zero-div (2 ^ p))

@@ -9,7 +9,7 @@ use lib.Dec.{eqb, T, eqb→eq}
 use lib.Pow.{pow-mono}
 use Rattle.std.proofs.shelf.Bits.{leading-top, shr-high}
 use Rattle.std.proofs.shelf.Tests.{cases-lt, eq-eqb}
-use Rattle.net.specs.Sets.{has, In, intersection, union, difference, Subset}
+use Rattle.net.specs.Sets.{has, In, intersection, union, difference, exchange, Subset}
 use Rattle.net.proofs.Bits.{has-intersection, has-union, has-difference, has-none, has-single, same-bits}
 
 -- ---- tests that hold
@@ -66,6 +66,12 @@ in-union a b p = test-in (has (union a b) p) (has a p || has b p) (has-union a b
 
 pub in-difference : (a b p : ℕ) → In p (difference a b) ↔ (In p a × (In p b → ⊥))
 in-difference a b p = test-in (has (difference a b) p) (has a p && not (has b p)) (has-difference a b p) (first-holds (has a p) (has b p))
+
+pub in-exchange : (s dark light p : ℕ) → In p (exchange s dark light) ↔ ((In p s × (In p dark → ⊥)) ⊎ In p light)
+in-exchange s dark light p = (
+  λ i. ⊎-elim (λ j. inl (in-difference s dark p .0 j)) (λ j. inr j) (in-union (difference s dark) light p .0 i),
+  λ h. in-union (difference s dark) light p .1 (⊎-elim (λ j. inl (in-difference s dark p .1 j)) (λ j. inr j) h),
+)
 
 pub in-none : (p : ℕ) → In p 0 → ⊥
 in-none p i = subst T (has-none p) i

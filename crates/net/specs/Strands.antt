@@ -1,13 +1,13 @@
--- Strands: sets of places that hold at most one token between them, whatever fires.
--- EvenAt: the transition takes as many places of the set as it gives.
--- EvenBelow: the set is even at each transition below k.
--- ThinAt: the transition takes at most one place of the set, and gives at most one.
--- Thin: at most one place of the set is marked, and it is thin at every transition.
--- Good: a non-empty thin set of places that is even at the transitions below k.
--- Strand: a good set that is even at every transition.
--- Occurs: p is in one of the sets of a list.
--- Cover: a list of strands in which every place occurs.
--- HasCover: there is a cover.
+-- Strands and covers. A strand is a set of places that holds at most one token between them, whatever fires; a cover is a list of strands with every place in it.
+--   Occurs      p is in one of the sets of the list
+--   EvenAt      the transition takes as many places of the set as it gives
+--   EvenBelow   the set is even at each transition below k
+--   ThinAt      the transition takes at most one place of the set, and gives at most one
+--   Thin        at most one place of the set is marked, and the set is thin at every transition
+--   Good        a non-empty thin set of places that is even at the transitions below k
+--   Strand      a non-empty thin set of places that is even at every transition
+--   Cover       a list of strands in which every place occurs
+--   HasCover    there is a cover
 use mathlib.Core.Path.{_≡_}
 use mathlib.Core.List.{List}
 use Prim.Native.Nat.{ℕ, _^_, _<_, _≤_}

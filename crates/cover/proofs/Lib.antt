@@ -1,0 +1,4 @@
+pub mod Passing
+pub mod Bares
+pub mod Numbered
+pub mod Covers

@@ -1,0 +1,4 @@
+pub mod Checks
+pub mod Bare
+pub mod Sheets
+pub mod Certificates
