@@ -2,8 +2,10 @@
 mod board;
 mod gate;
 mod lines;
+mod relays;
 mod sets;
 mod snapshot;
+mod turned;
 mod word;
 
 pub use board::Board;
@@ -12,8 +14,14 @@ pub use gate::GateBoard;
 pub use gate::GateLines;
 pub use gate::Guard;
 pub use lines::Lines;
+pub use relays::Relays;
+pub use relays::board::RelaysBoard;
+pub use relays::board::RelaysLines;
 pub use snapshot::Snapshot;
 pub use snapshot::lines::SnapshotLines;
+pub use turned::Turned;
+pub use turned::board::TurnedBoard;
+pub use turned::board::TurnedLines;
 pub use word::Word;
 pub use word::board::WordBoard;
 pub use word::board::WordLines;

@@ -1,0 +1,78 @@
+// The turned board, over any board.
+ghost use mathlib.Core.Path.{_≡_};
+ghost use Rattle.net.specs.Sets.{has, union, intersection};
+ghost use Rattle.board.specs.Rules.{Laid, Exchanged};
+ghost use Rattle.board.specs.Turns.{turn, turned-lit, turned-shut, Signalled};
+use crate::board::Board;
+use crate::lines::Lines;
+use crate::sets::has_line;
+use crate::turned::Turned;
+
+impl<B> Turned<B> {
+    // A board on which the lines of the set are turned over, over a board.
+    pub fn new(set: u64, below: B) -> Turned<B>
+        ensures set { λ r. ⌜ r .set ≡ set ⌝ }
+        ensures below { λ r. ⌜ r .below ≡ below ⌝ }
+    {
+        Turned { set, below }
+    }
+
+    // The lines that are turned over.
+    pub fn set(&self) -> u64
+        ensures { λ r. ⌜ r ≡ now (self .entry) .set ⌝ }
+    {
+        self.set
+    }
+
+    // The board below.
+    pub fn below(&self) -> &B
+        ensures { λ r. ⌜ now r ≡ now (self .entry) .below ⌝ }
+    {
+        &self.below
+    }
+}
+
+// What is to be lit below, of the lines that an exchange touches: those that it leaves lit above and that are not turned,
+// and those that it leaves dark and that are turned.
+fn light_below(dark: u64, light: u64, turned: u64) -> u64
+    ensures { λ r. ⌜ r ≡ intersection (union dark light) (turn light turned) ⌝ }
+{
+    (dark | light) & (light ^ turned)
+}
+
+pub impl<B: Lines> Lines for Turned<B> as TurnedLines {
+    ghost lit = { turned-lit (B·Lines .lit) };
+
+    fn read(&self, line: u8) -> bool {
+        self.below.read(line) != has_line(self.set, line)
+    }
+}
+
+pub impl<B: Board> Board for Turned<B> as TurnedBoard {
+    ghost closed = { turned-shut (B·Board .closed) };
+
+    ghost signalled = { Signalled (B·Board .signalled) };
+
+    fn shut(&self) -> Option<u8> {
+        self.below.shut()
+    }
+
+    fn lay(&mut self, set: u64)
+        ensures laid { λ _. ⌜ Laid (turned-lit (B·Lines .lit)) (turned-shut (B·Board .closed)) set (now (self .entry)) (now (self .exit)) ⌝ }
+        ensures kept { λ _. ⌜ now (self .exit) .set ≡ now (self .entry) .set ⌝ }
+    {
+        self.below.lay(set ^ self.set);
+    }
+
+    fn exchange(&mut self, dark: u64, light: u64) -> Result<(), u8>
+        ensures exchanged { λ r. ⌜ Exchanged (turned-lit (B·Lines .lit)) (turned-shut (B·Board .closed)) dark light (now (self .entry)) r (now (self .exit)) ⌝ }
+        ensures kept { λ _. ⌜ now (self .exit) .set ≡ now (self .entry) .set ⌝ }
+    {
+        let lit = light_below(dark, light, self.set);
+        self.below.exchange(dark | light, lit)
+    }
+
+    fn signal(&mut self, channel: u8, event: u8) {
+        self.below.signal(channel, event);
+    }
+}
