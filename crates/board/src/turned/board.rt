@@ -17,13 +17,6 @@ impl<B> Turned<B> {
         Turned { set, below }
     }
 
-    // The lines that are turned over.
-    pub fn set(&self) -> u64
-        ensures { λ r. ⌜ r ≡ now (self .entry) .set ⌝ }
-    {
-        self.set
-    }
-
     // The board below.
     pub fn below(&self) -> &B
         ensures { λ r. ⌜ now r ≡ now (self .entry) .below ⌝ }
