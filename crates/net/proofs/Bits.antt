@@ -1,4 +1,4 @@
--- A number by its bits: what `has` answers, as a test, of `both`, `either`, `without`, 0 and 2 ^ p.
+-- A number by its bits: what `has` answers, as a test, of the intersection, the union and the difference of two sets, of 0 and of 2 ^ p.
 use mathlib.Core.Path.{_≡_, refl, sym, ap, ap₂, _∙_}
 use mathlib.Core.Bool.{Bool, true, false, cond, not, _&&_, _||_}
 use Prim.Native.Nat.{ℕ, zero, suc, _+_, _*_, _/_, _%_, _^_, _<_}

@@ -8,4 +8,7 @@ pub mod Thins
 pub mod Known
 pub mod Listed
 pub mod Kept
+pub mod Tokens
 pub mod Lows
+pub mod Trailing
+pub mod Drawn

@@ -9,8 +9,7 @@ use lib.Count.{ones, ones-cat}
 use lib.Dec.{T}
 use Rattle.std.proofs.shelf.Bits.{pow-pos}
 use Rattle.std.proofs.shelf.Tests.{cases-lt, cases-eq}
-use Rattle.net.specs.Sets.{has, In, size, intersection, union, difference, Subset, Disjoint}
-use Rattle.net.specs.Nets.{one-in}
+use Rattle.net.specs.Sets.{has, In, size, intersection, union, difference, Subset, Disjoint, one-in}
 use Rattle.net.specs.Sums.{total}
 use Rattle.net.proofs.Bits.{has-intersection, has-union, has-difference, has-none}
 use Rattle.net.proofs.Members.{in-cases, has-in, in-intersection, in-difference, in-single, single-in, below-power, none-in, some-in}

@@ -3,4 +3,7 @@ pub mod Sums
 pub mod Lowest
 pub mod Arcs
 pub mod Nets
+pub mod Counting
+pub mod Outcomes
+pub mod Drawings
 pub mod Strands

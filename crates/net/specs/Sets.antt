@@ -1,6 +1,7 @@
 -- A set of places, lines or keys is a number: p is in it where bit p, worth 2 ^ p, is 1.
 --   has            whether the set has p, as a test
 --   In             p is in the set
+--   one-in         1 for a member of the set, and 0 for any other
 --   size           how many members the set has
 --   intersection   the members of both sets
 --   union          the members of one set or the other
@@ -9,7 +10,7 @@
 --   Subset         each member of the first set is in the second
 --   Meets          the sets share a member
 --   Disjoint       the sets share no member
-use mathlib.Core.Bool.{Bool}
+use mathlib.Core.Bool.{Bool, cond}
 use Prim.Native.Nat.{ℕ, _/_, _%_, _^_}
 use lib.Bits.{bitAnd, bitOr, bitXor}
 use lib.Count.{ones}
@@ -20,6 +21,9 @@ has s p = eqb (s / 2 ^ p % 2) 1
 
 abbrev pub In : ℕ → ℕ → Type 0
 In p s = T (has s p)
+
+abbrev pub one-in : ℕ → ℕ → ℕ
+one-in s p = cond (has s p) 1 0
 
 abbrev pub size : ℕ → ℕ
 size s = ones s
