@@ -1,0 +1,12 @@
+// Kinds of weight, and what the lit lines of a board weigh.
+mod carriers;
+mod keys;
+mod weight;
+
+pub use carriers::Carriers;
+pub use carriers::CarriersPartialEq;
+pub use carriers::weight::CarriersWeight;
+pub use keys::Keys;
+pub use keys::KeysPartialEq;
+pub use keys::KeysWeight;
+pub use weight::Weight;
