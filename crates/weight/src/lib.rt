@@ -1,6 +1,7 @@
 // Kinds of weight, and what the lit lines of a board weigh.
 mod carriers;
 mod keys;
+mod weighing;
 mod weight;
 
 pub use carriers::Carriers;
@@ -9,4 +10,7 @@ pub use carriers::weight::CarriersWeight;
 pub use keys::Keys;
 pub use keys::KeysPartialEq;
 pub use keys::KeysWeight;
+pub use weighing::balance;
+pub use weighing::drift;
+pub use weighing::weigh;
 pub use weight::Weight;
