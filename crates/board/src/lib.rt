@@ -8,6 +8,9 @@ mod snapshot;
 mod turned;
 mod word;
 
+#[cfg(test)]
+mod tests;
+
 pub use board::Board;
 pub use gate::Gate;
 pub use gate::GateBoard;

@@ -1,5 +1,5 @@
 pub mod board;
-mod relay;
+pub(crate) mod relay;
 
 ghost use mathlib.Core.Path.{_≡_};
 ghost use lib.ListN.{length};
