@@ -5,17 +5,19 @@ mod lines;
 mod relays;
 mod sets;
 mod snapshot;
-mod turned;
-mod word;
-
 #[cfg(test)]
 mod tests;
+mod turned;
+mod word;
 
 pub use board::Board;
 pub use gate::Gate;
 pub use gate::GateBoard;
 pub use gate::GateLines;
 pub use gate::Guard;
+pub use gate::GuardDebug;
+pub use gate::GuardEq;
+pub use gate::GuardPartialEq;
 pub use lines::Lines;
 pub use relays::Relays;
 pub use relays::board::RelaysBoard;

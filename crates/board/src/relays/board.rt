@@ -84,5 +84,7 @@ pub impl Board for Relays as RelaysBoard {
 
     fn signal(&mut self, _channel: u8, _event: u8)
         ensures ignored { λ _. ⌜ now (self .exit) ≡ now (self .entry) ⌝ }
-    {}
+    {
+        // no signal means anything to this board
+    }
 }

@@ -16,13 +16,13 @@ impl Snapshot {
     pub fn of<L: Lines>(lines: &L) -> Snapshot
         ensures { λ r. ⌜ r .set ≡ L·Lines .lit (now (lines .entry)) ⌝ }
     {
-        let mut set = 0;
+        let mut copy = 0;
         for line in 0..64 {
             if lines.read(line) {
-                set |= 1 << line;
+                copy |= 1 << line;
             }
         }
-        Snapshot { set }
+        Snapshot { set: copy }
     }
 
     // The copied set.

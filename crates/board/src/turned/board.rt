@@ -1,6 +1,6 @@
 // The turned board, over any board.
 ghost use mathlib.Core.Path.{_≡_};
-ghost use Rattle.net.specs.Sets.{has, union, intersection};
+ghost use Rattle.net.specs.Sets.{union, intersection};
 ghost use Rattle.board.specs.Rules.{Laid, Exchanged};
 ghost use Rattle.board.specs.Turns.{turn, turned-lit, turned-shut, Signalled};
 use crate::board::Board;
@@ -23,14 +23,21 @@ impl<B> Turned<B> {
     {
         &self.below
     }
-}
 
-// What is to be lit below, of the lines that an exchange touches: those that it leaves lit above and that are not turned,
-// and those that it leaves dark and that are turned.
-fn light_below(dark: u64, light: u64, turned: u64) -> u64
-    ensures { λ r. ⌜ r ≡ intersection (union dark light) (turn light turned) ⌝ }
-{
-    (dark | light) & (light ^ turned)
+    // What a set of lines above is below, and a set below is above.
+    fn turned_over(&self, set: u64) -> u64
+        ensures { λ r. ⌜ r ≡ turn set (now (self .entry) .set) ⌝ }
+    {
+        set ^ self.set
+    }
+
+    // What is to be lit below, of the lines that an exchange touches: those that it leaves lit above and that are not turned,
+    // and those that it leaves dark and that are turned.
+    fn light_below(&self, dark: u64, light: u64) -> u64
+        ensures { λ r. ⌜ r ≡ intersection (union dark light) (turn light (now (self .entry) .set)) ⌝ }
+    {
+        (dark | light) & self.turned_over(light)
+    }
 }
 
 pub impl<B: Lines> Lines for Turned<B> as TurnedLines {
@@ -54,14 +61,15 @@ pub impl<B: Board> Board for Turned<B> as TurnedBoard {
         ensures laid { λ _. ⌜ Laid (turned-lit (B·Lines .lit)) (turned-shut (B·Board .closed)) set (now (self .entry)) (now (self .exit)) ⌝ }
         ensures kept { λ _. ⌜ now (self .exit) .set ≡ now (self .entry) .set ⌝ }
     {
-        self.below.lay(set ^ self.set);
+        let below = self.turned_over(set);
+        self.below.lay(below);
     }
 
     fn exchange(&mut self, dark: u64, light: u64) -> Result<(), u8>
         ensures exchanged { λ r. ⌜ Exchanged (turned-lit (B·Lines .lit)) (turned-shut (B·Board .closed)) dark light (now (self .entry)) r (now (self .exit)) ⌝ }
         ensures kept { λ _. ⌜ now (self .exit) .set ≡ now (self .entry) .set ⌝ }
     {
-        let lit = light_below(dark, light, self.set);
+        let lit = self.light_below(dark, light);
         self.below.exchange(dark | light, lit)
     }
 

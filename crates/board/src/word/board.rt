@@ -53,5 +53,7 @@ pub impl Board for Word as WordBoard {
 
     fn signal(&mut self, _channel: u8, _event: u8)
         ensures ignored { λ _. ⌜ now (self .exit) ≡ now (self .entry) ⌝ }
-    {}
+    {
+        // no signal means anything to this board
+    }
 }

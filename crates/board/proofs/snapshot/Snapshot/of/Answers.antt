@@ -13,12 +13,12 @@ loop-line-again g c =
     let n = c .loop-line .line in
     let so = c .loop-line .inv in
     elim (c .if-read .came) [
-      | need.then-read w ↦ subst (Copied lit (n + 1)) (sym (w .set-is)) (copied-lit lit n (c .loop-line .set) so (omega arith) (sym (c .read .ensures) ∙ w .if-read .taken))
-      | need.else-read w ↦ subst (Copied lit (n + 1)) (sym (w .set-is)) (copied-unlit lit n (c .loop-line .set) so (sym (c .read .ensures) ∙ w .if-read .left))
+      | need.then-read w ↦ subst (Copied lit (n + 1)) (sym (w .copy-is)) (copied-lit lit n (c .loop-line .copy) so (omega arith) (sym (c .read .ensures) ∙ w .if-read .taken))
+      | need.else-read w ↦ subst (Copied lit (n + 1)) (sym (w .copy-is)) (copied-unlit lit n (c .loop-line .copy) so (sym (c .read .ensures) ∙ w .if-read .left))
     ]
 
 pub returns : need.returns
 returns g c =
     let lit = g .L·Lines .lit (c .args .lines .now) in
     let end : c .loop-line .line ≡ 64 = omega arith in
-    copied-all lit (c .loop-line .set) (g .L·Lines·met .bounded (c .args .lines .now)) (subst (λ n. Copied lit n (c .loop-line .set)) end (c .loop-line .inv))
+    copied-all lit (c .loop-line .copy) (g .L·Lines·met .bounded (c .args .lines .now)) (subst (λ n. Copied lit n (c .loop-line .copy)) end (c .loop-line .inv))

@@ -7,6 +7,6 @@ pub returns : need.returns
 returns g c =
     let set = c .args .self .now .set in
     record {
-      laid = record { lines = ap (λ x. turn x set) (c .lay .ensures .lines) ∙ turned-twice (c .args .set) set; channel = c .lay .ensures .channel };
+      laid = record { lines = ap (λ x. turn x set) (c .lay .ensures .lines ∙ c .turned-over-below .ensures) ∙ turned-twice (c .args .set) set; channel = c .lay .ensures .channel };
       kept = refl;
     }
