@@ -34,7 +34,7 @@ fn kinds_add_and_invert() -> Result<(), Fail> {
     check_eq(Keys::new(0x3).add(Keys::new(0x3).inverse()), Keys::NEUTRAL)
 }
 
-// Lines 0, 2 and 63 are lit: a list of 3 has no entry for the last, and one of 70 has entries that no line has.
+// A list of 3 has no entry for line 63, and one of 66 has two entries that no line has.
 #[test]
 fn lines_weigh() -> Result<(), Fail> {
     let mut board = Gate::new(0, Word::new());
