@@ -27,10 +27,17 @@ impl Relays {
     pub fn wear(&self, relay: u8) -> u32
         ensures { λ r. ⌜ r ≡ relay-at (now (self .entry) .relays) relay .wear ⌝ }
     {
-        if relay < 64 {
-            self.relays[relay as usize].wear
+        self.relay(relay).wear
+    }
+
+    // The relay, or one that is off and unworn where there is no such relay.
+    fn relay(&self, n: u8) -> Relay
+        ensures { λ r. ⌜ r ≡ relay-at (now (self .entry) .relays) n ⌝ }
+    {
+        if n < 64 {
+            self.relays[n as usize]
         } else {
-            0
+            Relay::new()
         }
     }
 
@@ -50,7 +57,7 @@ pub impl Lines for Relays as RelaysLines {
     ghost lit = { λ b. relays-on (b .relays) };
 
     fn read(&self, line: u8) -> bool {
-        line < 64 && self.relays[line as usize].on
+        self.relay(line).on
     }
 }
 
