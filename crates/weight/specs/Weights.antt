@@ -40,4 +40,4 @@ module _ {W : Type 0} (a : Addition W) where
 
     abbrev pub Balances : Option ℕ → Type 0
     Balances (Some t) = (t < n .transitions) × (drift-of t ≡ a .neutral → ⊥) × ((u : ℕ) → u < t → drift-of u ≡ a .neutral)
-    Balances None = (u : ℕ) → drift-of u ≡ a .neutral
+    Balances None = (u : ℕ) → u < n .transitions → drift-of u ≡ a .neutral

@@ -1,5 +1,6 @@
 // Carriers as weights: sums wrap.
 ghost use mathlib.Core.Path.{_≡_};
+ghost use Prim.Native.Nat.{_+_, _-_, _%_, _^_};
 ghost use Rattle.weight.specs.Kinds.{carriers, opposite};
 use crate::carriers::Carriers;
 use crate::carriers::CarriersPartialEq;
@@ -28,17 +29,23 @@ pub impl Weight for Carriers as CarriersWeight {
 
     ghost minus = { opposite };
 
-    fn zero() -> Carriers {
+    fn zero() -> Carriers
+        ensures count { λ r. ⌜ r .count ≡ 0 ⌝ }
+    {
         Self::NEUTRAL
     }
 
-    fn add(self, other: Carriers) -> Carriers {
+    fn add(self, other: Carriers) -> Carriers
+        ensures count { λ r. ⌜ r .count ≡ (self .count + other .count) % 2 ^ 32 ⌝ }
+    {
         Carriers {
             count: self.count.wrapping_add(other.count),
         }
     }
 
-    fn inverse(self) -> Carriers {
+    fn inverse(self) -> Carriers
+        ensures count { λ r. ⌜ r .count ≡ (2 ^ 32 - self .count) % 2 ^ 32 ⌝ }
+    {
         Carriers {
             count: self.count.wrapping_neg(),
         }

@@ -16,3 +16,12 @@ inverts-law x = same-count _ _ (omega arith)
 
 pub exact-law : need.exact-law
 exact-law x y r h = (λ e. same-count x y (h .0 e), λ e. h .1 (ap (λ (z : Carriers). z .count) e))
+
+pub zero-tells : need.zero-tells
+zero-tells c = same-count _ _ (omega arith)
+
+pub add-tells : need.add-tells
+add-tells c = same-count _ _ (omega arith)
+
+pub inverse-tells : need.inverse-tells
+inverse-tells c = same-count _ _ (omega arith)
