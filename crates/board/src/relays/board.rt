@@ -56,7 +56,9 @@ impl Relays {
 pub impl Lines for Relays as RelaysLines {
     ghost lit = { λ b. relays-on (b .relays) };
 
-    fn read(&self, line: u8) -> bool {
+    fn read(&self, line: u8) -> bool
+        ensures relay { λ r. ⌜ r ≡ relay-at (now (self .entry) .relays) line .on ⌝ }
+    {
         self.relay(line).on
     }
 }

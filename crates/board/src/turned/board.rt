@@ -1,8 +1,8 @@
 // The turned board, over any board.
 ghost use mathlib.Core.Path.{_≡_};
-ghost use Rattle.net.specs.Sets.{union, intersection};
+ghost use Rattle.net.specs.Sets.{union};
 ghost use Rattle.board.specs.Rules.{Laid, Exchanged};
-ghost use Rattle.board.specs.Turns.{turn, turned-lit, turned-shut, Signalled};
+ghost use Rattle.board.specs.Turns.{turn, light-below, turned-lit, turned-shut, Signalled};
 use crate::board::Board;
 use crate::lines::Lines;
 use crate::sets::has_line;
@@ -31,10 +31,9 @@ impl<B> Turned<B> {
         set ^ self.set
     }
 
-    // What is to be lit below, of the lines that an exchange touches: those that it leaves lit above and that are not turned,
-    // and those that it leaves dark and that are turned.
+    // What an exchange lights below.
     fn light_below(&self, dark: u64, light: u64) -> u64
-        ensures { λ r. ⌜ r ≡ intersection (union dark light) (turn light (now (self .entry) .set)) ⌝ }
+        ensures { λ r. ⌜ r ≡ light-below dark light (now (self .entry) .set) ⌝ }
     {
         (dark | light) & self.turned_over(light)
     }
@@ -58,7 +57,7 @@ pub impl<B: Board> Board for Turned<B> as TurnedBoard {
     }
 
     fn lay(&mut self, set: u64)
-        ensures laid { λ _. ⌜ Laid (turned-lit (B·Lines .lit)) (turned-shut (B·Board .closed)) set (now (self .entry)) (now (self .exit)) ⌝ }
+        ensures below { λ _. ⌜ Laid (B·Lines .lit) (B·Board .closed) (turn set (now (self .entry) .set)) (now (self .entry) .below) (now (self .exit) .below) ⌝ }
         ensures kept { λ _. ⌜ now (self .exit) .set ≡ now (self .entry) .set ⌝ }
     {
         let below = self.turned_over(set);
@@ -66,7 +65,7 @@ pub impl<B: Board> Board for Turned<B> as TurnedBoard {
     }
 
     fn exchange(&mut self, dark: u64, light: u64) -> Result<(), u8>
-        ensures exchanged { λ r. ⌜ Exchanged (turned-lit (B·Lines .lit)) (turned-shut (B·Board .closed)) dark light (now (self .entry)) r (now (self .exit)) ⌝ }
+        ensures below { λ r. ⌜ Exchanged (B·Lines .lit) (B·Board .closed) (union dark light) (light-below dark light (now (self .entry) .set)) (now (self .entry) .below) r (now (self .exit) .below) ⌝ }
         ensures kept { λ _. ⌜ now (self .exit) .set ≡ now (self .entry) .set ⌝ }
     {
         let lit = self.light_below(dark, light);
