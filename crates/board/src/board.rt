@@ -12,6 +12,7 @@ pub trait Board: Lines {
     // the board's own rule for a signal: the board before, the channel, the event and the board after
     ghost signalled: { Self → ℕ → ℕ → Self → Type 0 };
 
+    // a signal keeps the lit set
     law quiet: { (b : Self) (channel event : ℕ) (after : Self) → signalled b channel event after → Self·Lines .lit after ≡ Self·Lines .lit b };
 
     // The shut channel, if any.

@@ -13,6 +13,7 @@ pub enum Guard {
     Waiting,
 }
 
+// A gate: its channel, its state and the board below. While it is not Ready it is shut with its channel.
 #[derive(Drop)]
 pub struct Gate<B> {
     channel: u8,

@@ -7,6 +7,7 @@ pub trait Lines {
     // the set of lit lines, which is the whole meaning of lines that can be read
     ghost lit: { Self → ℕ };
 
+    // there are 64 lines
     law bounded: { (b : Self) → lit b < 2 ^ 64 };
 
     // Whether the line is lit. There are 64 lines, so none is from 64 on.
