@@ -1,0 +1,3 @@
+pub mod Additions
+pub mod Kinds
+pub mod Weights
