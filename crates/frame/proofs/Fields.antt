@@ -4,7 +4,6 @@ use mathlib.Core.List.{List, [], _∷_}
 use Prim.Native.Nat.{ℕ, zero, suc, _+_, _*_, _/_, _≤_, _<_, _^_}
 use native.Mathlib.Omega.{arith}
 use native.Mathlib.Numerals.{add-one}
-
 use lib.ListN.{length, getD}
 use lib.Pow.{pow-mono, pow-add}
 use Rattle.std.proofs.shelf.Lists.{getD-past}

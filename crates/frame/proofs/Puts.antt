@@ -25,7 +25,7 @@ puts-byte m bs m0 n b holds is room =
     let low = charOf (b % 16) in
     let long : length p ≡ n = length-hex bs ∙ sym is in
     let two : drop n m0 ≡ getD m0 n 0 ∷ (getD m0 (n + 1) 0 ∷ drop (n + 1 + 1) m0) =
-        drop-more m0 n 0 (omega arith) ∙ ap (λ l. getD m0 n 0 ∷ l) (drop-more m0 (n + 1) 0 (omega arith)) in
+    drop-more m0 n 0 (omega arith) ∙ ap (λ l. getD m0 n 0 ∷ l) (drop-more m0 (n + 1) 0 (omega arith)) in
     let at : n - n ≡ 0 = omega arith in
     let next : n + 1 - n ≡ 1 = omega arith in
     let on : n + 1 + 1 ≡ n + 2 = omega arith in

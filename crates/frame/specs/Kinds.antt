@@ -39,15 +39,15 @@ kindFrom b =
 -- a set is 8 bytes, and any other field is one
 abbrev pub payloadLength : ℕ → Option ℕ
 payloadLength k =
-    cond (eqb k 1) (Some 10) -- draw: places, transitions, the set of marks
-    (cond (eqb k 2) (Some 17) -- arcs: transition, the set taken, the set given
-    (cond (eqb k 3) (Some 8) -- propose: a set
-    (cond (eqb k 4) (Some 0) -- search
-    (cond (eqb k 5) (Some 0) -- certify and start
-    (cond (eqb k 6) (Some 1) -- fire: transition
-    (cond (eqb k 7) (Some 2) -- signal: channel, event
-    (cond (eqb k 8) (Some 0) -- halt
-    (cond (eqb k 9) (Some 0) -- resume
-    (cond (eqb k 10) (Some 0) -- home
-    (cond (leb 128 k && leb k 138) (Some 10) -- an answer: result, detail, the lit set
+    cond (eqb k 1) (Some 10)  -- draw: places, transitions, the set of marks
+    (cond (eqb k 2) (Some 17)  -- arcs: transition, the set taken, the set given
+    (cond (eqb k 3) (Some 8)  -- propose: a set
+    (cond (eqb k 4) (Some 0)  -- search
+    (cond (eqb k 5) (Some 0)  -- certify and start
+    (cond (eqb k 6) (Some 1)  -- fire: transition
+    (cond (eqb k 7) (Some 2)  -- signal: channel, event
+    (cond (eqb k 8) (Some 0)  -- halt
+    (cond (eqb k 9) (Some 0)  -- resume
+    (cond (eqb k 10) (Some 0)  -- home
+    (cond (leb 128 k && leb k 138) (Some 10)  -- an answer: result, detail, the lit set
     None))))))))))

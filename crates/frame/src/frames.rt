@@ -22,5 +22,8 @@ pub enum Frame<'a> {
     Resume(Payload<'a>),
     Home(Payload<'a>),
     // the answer to a line of a kind, or to one that has none: an unreadable line, or itself an answer
-    Answer { to: Option<Kind>, payload: Payload<'a> },
+    Answer {
+        to: Option<Kind>,
+        payload: Payload<'a>,
+    },
 }

@@ -12,17 +12,37 @@ use crate::kinds::Kind;
 
 #[derive(Clone, Copy)]
 pub enum Request {
-    Draw { places: u8, transitions: u8, marks: u64 },
-    Arcs { transition: u8, taken: u64, given: u64 },
-    Propose { set: u64 },
+    Draw {
+        places: u8,
+        transitions: u8,
+        marks: u64,
+    },
+    Arcs {
+        transition: u8,
+        taken: u64,
+        given: u64,
+    },
+    Propose {
+        set: u64,
+    },
     Search,
     Certify,
-    Fire { transition: u8 },
-    Signal { channel: u8, event: u8 },
+    Fire {
+        transition: u8,
+    },
+    Signal {
+        channel: u8,
+        event: u8,
+    },
     Halt,
     Resume,
     Home,
-    Answer { to: Option<Kind>, result: u8, detail: u8, lit: u64 },
+    Answer {
+        to: Option<Kind>,
+        result: u8,
+        detail: u8,
+        lit: u64,
+    },
 }
 
 // The number of a digit.
@@ -74,8 +94,14 @@ impl<'a> Frame<'a> {
             Frame::Halt(_) => 8,
             Frame::Resume(_) => 9,
             Frame::Home(_) => 10,
-            Frame::Answer { to: None, payload: _ } => 128,
-            Frame::Answer { to: Some(kind), payload: _ } => 128 + kind.byte(),
+            Frame::Answer {
+                to: None,
+                payload: _,
+            } => 128,
+            Frame::Answer {
+                to: Some(kind),
+                payload: _,
+            } => 128 + kind.byte(),
         }
     }
 
@@ -130,7 +156,9 @@ impl<'a> Frame<'a> {
             Frame::Propose(p) => Request::Propose { set: p.set(0) },
             Frame::Search(_) => Request::Search,
             Frame::Certify(_) => Request::Certify,
-            Frame::Fire(p) => Request::Fire { transition: p.byte(0) },
+            Frame::Fire(p) => Request::Fire {
+                transition: p.byte(0),
+            },
             Frame::Signal(p) => Request::Signal {
                 channel: p.byte(0),
                 event: p.byte(1),

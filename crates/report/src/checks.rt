@@ -55,7 +55,13 @@ fn closing_text(heap: Global, good: usize, bad: usize) -> Result<String, AllocEr
 }
 
 // Adds the line of the report on a line of the job, and answers whether that is good.
-fn report_line(heap: Global, report: &mut String, number: usize, place: usize, line: &[u8]) -> Result<bool, AllocError>
+fn report_line(
+    heap: Global,
+    report: &mut String,
+    number: usize,
+    place: usize,
+    line: &[u8],
+) -> Result<bool, AllocError>
     ensures { λ r. ⌜ made r (λ good. (good ≡ isGood (now (line .entry))) × (string-bytes (now (report .exit)) ≡ string-bytes (now (report .entry)) ++ lineText number place (findingOf (now (line .entry))))) ⌝ }
 {
     let found = find(heap, line, place)?;

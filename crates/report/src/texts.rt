@@ -79,7 +79,10 @@ fn draw_text(heap: Global, places: u8, transitions: u8, marks: u64) -> Result<St
     ensures { λ r. ⌜ made r (λ s. string-bytes s ≡ drawText places transitions marks) ⌝ }
 {
     let marks = members(heap, marks)?;
-    format!(heap, "draw: places {places}, transitions {transitions}, marks {marks}")
+    format!(
+        heap,
+        "draw: places {places}, transitions {transitions}, marks {marks}"
+    )
 }
 
 fn arcs_text(heap: Global, transition: u8, taken: u64, given: u64) -> Result<String, AllocError>
@@ -87,7 +90,10 @@ fn arcs_text(heap: Global, transition: u8, taken: u64, given: u64) -> Result<Str
 {
     let taken = members(heap, taken)?;
     let given = members(heap, given)?;
-    format!(heap, "arcs: transition {transition}, taken {taken}, given {given}")
+    format!(
+        heap,
+        "arcs: transition {transition}, taken {taken}, given {given}"
+    )
 }
 
 fn propose_text(heap: Global, set: u64) -> Result<String, AllocError>
@@ -109,12 +115,21 @@ fn signal_text(heap: Global, channel: u8, event: u8) -> Result<String, AllocErro
     format!(heap, "signal: channel {channel}, event {event}")
 }
 
-fn answer_text(heap: Global, to: Option<Kind>, result: u8, detail: u8, lit: u64) -> Result<String, AllocError>
+fn answer_text(
+    heap: Global,
+    to: Option<Kind>,
+    result: u8,
+    detail: u8,
+    lit: u64,
+) -> Result<String, AllocError>
     ensures { λ r. ⌜ made r (λ s. string-bytes s ≡ answerText to result detail lit) ⌝ }
 {
     let kind = kind_name(to);
     let lit = members(heap, lit)?;
-    format!(heap, "answer to {kind}: result {result}, detail {detail}, lit {lit}")
+    format!(
+        heap,
+        "answer to {kind}: result {result}, detail {detail}, lit {lit}"
+    )
 }
 
 // What a line says, with its fields.
@@ -122,8 +137,16 @@ pub fn saying(heap: Global, request: Request) -> Result<String, AllocError>
     ensures { λ r. ⌜ made r (λ s. string-bytes s ≡ sayingOf request) ⌝ }
 {
     match request {
-        Request::Draw { places, transitions, marks } => draw_text(heap, places, transitions, marks),
-        Request::Arcs { transition, taken, given } => arcs_text(heap, transition, taken, given),
+        Request::Draw {
+            places,
+            transitions,
+            marks,
+        } => draw_text(heap, places, transitions, marks),
+        Request::Arcs {
+            transition,
+            taken,
+            given,
+        } => arcs_text(heap, transition, taken, given),
         Request::Propose { set } => propose_text(heap, set),
         Request::Search => String::from_str(heap, kind_name(Some(Kind::Search))),
         Request::Certify => String::from_str(heap, kind_name(Some(Kind::Certify))),
@@ -132,6 +155,11 @@ pub fn saying(heap: Global, request: Request) -> Result<String, AllocError>
         Request::Halt => String::from_str(heap, kind_name(Some(Kind::Halt))),
         Request::Resume => String::from_str(heap, kind_name(Some(Kind::Resume))),
         Request::Home => String::from_str(heap, kind_name(Some(Kind::Home))),
-        Request::Answer { to, result, detail, lit } => answer_text(heap, to, result, detail, lit),
+        Request::Answer {
+            to,
+            result,
+            detail,
+            lit,
+        } => answer_text(heap, to, result, detail, lit),
     }
 }

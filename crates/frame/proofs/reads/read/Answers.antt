@@ -44,6 +44,6 @@ returns c =
     let long : 4 ≤ length ds = search needs in
     let front : Front ds (c .in-Some .high) (c .in-Some-digit .low) = (omega arith, sym (c .digit .ensures) ∙ c .in-Some .is, sym (c .digit-2 .ensures) ∙ c .in-Some-digit .is) in
     let reading : Reads (c .args .line .now) (c .args .place) (c .frame-of .result) =
-        subst (λ l. DigitsRead l (c .args .place) (c .frame-of .result)) (c .digits-in-digits .ensures)
-        (reads-digits ds _ (c .args .place) (c .in-Some .high) (c .in-Some-digit .low) (c .frame-of .result) (digits, even, long) (sym is ∙ c .if-sum-ne0 .left) front (middle ds) (c .frame-of .ensures)) in
+    subst (λ l. DigitsRead l (c .args .place) (c .frame-of .result)) (c .digits-in-digits .ensures)
+    (reads-digits ds _ (c .args .place) (c .in-Some .high) (c .in-Some-digit .low) (c .frame-of .result) (digits, even, long) (sym is ∙ c .if-sum-ne0 .left) front (middle ds) (c .frame-of .ensures)) in
     record { reads = reading; writes-again = result-writes (c .args .line .now) (c .args .place) (c .frame-of .result) reading }

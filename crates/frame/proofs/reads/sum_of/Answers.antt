@@ -24,11 +24,12 @@ loop-rest-again c =
     let long : 2 ≤ length rest = search needs in
     let front : Front rest high low = (long, sym (c .digit .ensures) ∙ c .in-Some .is, sym (c .digit-in-len2-up .ensures) ∙ c .in-Some-digit .is) in
     let inv = c .loop-rest .inv in
-    let shorter : length (drop 2 rest) ≡ length rest - 2 = length-drop 2 rest in
-    (ap allDigits (take-rest rest 2) ∙ digits-after-front rest high low front ∙ inv .0,
-     ap (λ l. length l % 2) (take-rest rest 2) ∙ omega arith,
-     omega arith,
-     ap (λ l. ((c .loop-rest .sum + (high * 16 + low)) % 256 + sum (bytesOf l)) % 256) (take-rest rest 2) ∙ sum-at-front rest high low (c .loop-rest .sum) front ∙ inv .3)
+    let shorter : length (drop 2 rest) ≡ length rest - 2 = length-drop 2 rest in (
+      ap allDigits (take-rest rest 2) ∙ digits-after-front rest high low front ∙ inv .0,
+      ap (λ l. length l % 2) (take-rest rest 2) ∙ omega arith,
+      omega arith,
+      ap (λ l. ((c .loop-rest .sum + (high * 16 + low)) % 256 + sum (bytesOf l)) % 256) (take-rest rest 2) ∙ sum-at-front rest high low (c .loop-rest .sum) front ∙ inv .3,
+    )
 
 pub returns-in-rest-rest : need.returns-in-rest-rest
 returns-in-rest-rest c =
@@ -37,6 +38,7 @@ returns-in-rest-rest c =
     let short : length rest < 1 = search needs in
     let none = nil-from-length rest (omega arith) in
     let even : length (c .args .digits .now) % 2 ≡ 0 = omega arith in
-    let here : sum (bytesOf rest) ≡ 0 = ap (λ l. sum (bytesOf l)) none in
-    (ap₂ (λ x y. refuse-if (not x) Foreign (refuse-if (eqb y 1) OddOrShort (Ok tt))) (sym (inv .0) ∙ ap allDigits none) even,
-     sym (mod-eq-of-lt (inv .2)) ∙ ap (λ n. n % 256) (omega arith) ∙ inv .3)
+    let here : sum (bytesOf rest) ≡ 0 = ap (λ l. sum (bytesOf l)) none in (
+      ap₂ (λ x y. refuse-if (not x) Foreign (refuse-if (eqb y 1) OddOrShort (Ok tt))) (sym (inv .0) ∙ ap allDigits none) even,
+      sym (mod-eq-of-lt (inv .2)) ∙ ap (λ n. n % 256) (omega arith) ∙ inv .3,
+    )

@@ -53,7 +53,7 @@ returns c =
     let held : Holds (c .loop-i .memory) bs (2 * n + 2) m1 = inv .0 ∙ ap₂ (λ l i. hexOf (kind ∷ l) ++ drop (2 * i + 2) m1) all end in
     let on : 2 * n + 2 + 2 ≡ 2 * n + 4 = omega arith in
     let put : Holds (c .put-2 .last .memory) (bs ++ check ∷ []) (2 * n + 4) m1 =
-        c .put-2 .ensures ∙ puts-byte (c .loop-i .memory) bs m1 (2 * n + 2) check held (omega arith) (omega arith) ∙ ap (λ k. hexOf (bs ++ check ∷ []) ++ drop k m1) on in
+    c .put-2 .ensures ∙ puts-byte (c .loop-i .memory) bs m1 (2 * n + 2) check held (omega arith) (omega arith) ∙ ap (λ k. hexOf (bs ++ check ∷ []) ++ drop k m1) on in
     let sums : c .loop-i .sum ≡ sum bs % 256 = inv .2 ∙ ap (λ l. sum (kind ∷ l) % 256) all in
     let is : check ≡ checkOf bs = omega arith in
     let last : length (bs ++ check ∷ []) ≡ n + 2 = length-push bs check ∙ omega arith in

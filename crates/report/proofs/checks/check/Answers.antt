@@ -24,8 +24,8 @@ good-more : (c : need.Joined-branch) → c .if-branch .good ≡ c .loop-rest .go
 good-more c =
     let is = c .in-Continue-report-line .ensures tt .0 in
     elim (c .if-branch .came) [
-      then-branch w ↦ w .good-is ∙ ap (λ b. c .loop-rest .good + cond b 1 0) (sym (w .if-branch .taken) ∙ is)
-    | else-branch w ↦ w .good-is ∙ omega arith ∙ ap (λ b. c .loop-rest .good + cond b 1 0) (sym (w .if-branch .left) ∙ is)
+      | then-branch w ↦ w .good-is ∙ ap (λ b. c .loop-rest .good + cond b 1 0) (sym (w .if-branch .taken) ∙ is)
+      | else-branch w ↦ w .good-is ∙ omega arith ∙ ap (λ b. c .loop-rest .good + cond b 1 0) (sym (w .if-branch .left) ∙ is)
     ]
 
 few : (c : need.Joined-branch) → c .if-branch .good ≤ c .loop-rest .good + 1
@@ -40,9 +40,12 @@ loop-rest-again c =
     let l = lengths c in
     let g = few c in
     let line = c .first-line .result .0 .now in
-    let first : linesOf (c .loop-rest .rest .now) ≡ line ∷ linesOf (c .first-line .result .1 .now) = c .first-line .ensures .first (omega arith) in
-    (next-line _ _ (c .loop-rest .rest .now) line (c .first-line .result .1 .now) _ (c .loop-rest .number) (c .loop-rest .place) (c .loop-rest .good) (c .if-branch .good) (c .in-Continue-report-line .ensures tt .1) (good-more c) first (inv .0),
-     omega arith, omega arith, omega arith)
+    let first : linesOf (c .loop-rest .rest .now) ≡ line ∷ linesOf (c .first-line .result .1 .now) = c .first-line .ensures .first (omega arith) in (
+      next-line _ _ (c .loop-rest .rest .now) line (c .first-line .result .1 .now) _ (c .loop-rest .number) (c .loop-rest .place) (c .loop-rest .good) (c .if-branch .good) (c .in-Continue-report-line .ensures tt .1) (good-more c) first (inv .0),
+      omega arith,
+      omega arith,
+      omega arith,
+    )
 
 pub returns : need.returns
 returns c =

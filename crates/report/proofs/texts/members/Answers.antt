@@ -19,12 +19,12 @@ loop-n-again c =
     let n = c .loop-n .n-counter in
     let s = c .args .set in
     elim (c .if-set-n-eq1 .came) [
-      then-set-n-eq1·in-Continue-member·in-Continue-push-str w ↦
-        ap string-bytes (w .text-is) ∙ w .in-Continue-push-str .ensures tt .bytes
-        ∙ ap₂ _++_ (c .loop-n .inv) (w .as-str .ensures .value ∙ w .in-Continue-member .ensures tt .made)
-        ∙ append-assoc (codes "{") (listed n s) (codes " " ++ decimal n)
-        ∙ ap (λ l. codes "{" ++ l) (sym (listed-more n s (eq-eqb _ 1 (sym (and-mask _ 1) ∙ w .if-set-n-eq1 .taken))))
-    | else-set-n-eq1 w ↦ ap string-bytes (w .text-is) ∙ c .loop-n .inv ∙ ap (λ l. codes "{" ++ l) (sym (listed-passed n s (ne-eqb _ 1 (λ e. w .if-set-n-eq1 .left (and-mask _ 1 ∙ e)))))
+      | then-set-n-eq1·in-Continue-member·in-Continue-push-str w ↦
+          ap string-bytes (w .text-is) ∙ w .in-Continue-push-str .ensures tt .bytes
+          ∙ ap₂ _++_ (c .loop-n .inv) (w .as-str .ensures .value ∙ w .in-Continue-member .ensures tt .made)
+          ∙ append-assoc (codes "{") (listed n s) (codes " " ++ decimal n)
+          ∙ ap (λ l. codes "{" ++ l) (sym (listed-more n s (eq-eqb _ 1 (sym (and-mask _ 1) ∙ w .if-set-n-eq1 .taken))))
+      | else-set-n-eq1 w ↦ ap string-bytes (w .text-is) ∙ c .loop-n .inv ∙ ap (λ l. codes "{" ++ l) (sym (listed-passed n s (ne-eqb _ 1 (λ e. w .if-set-n-eq1 .left (and-mask _ 1 ∙ e)))))
     ]
 
 pub returns : need.returns

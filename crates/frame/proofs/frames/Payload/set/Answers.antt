@@ -23,6 +23,7 @@ add-set c =
 pub loop-i-again : need.loop-i-again
 loop-i-again c =
     let i = c .loop-i .i in
-    let bytes = bytesOf (c .args .self .digits .now) in
-    (ap₂ (λ x y. x * 256 + y) (c .loop-i .inv .0) (c .from .ensures ∙ c .byte .ensures) ∙ sym (number-more i bytes (c .args .at)),
-     wider i (c .loop-i .set) (c .from .result) (c .loop-i .inv .1) (omega arith))
+    let bytes = bytesOf (c .args .self .digits .now) in (
+      ap₂ (λ x y. x * 256 + y) (c .loop-i .inv .0) (c .from .ensures ∙ c .byte .ensures) ∙ sym (number-more i bytes (c .args .at)),
+      wider i (c .loop-i .set) (c .from .result) (c .loop-i .inv .1) (omega arith),
+    )

@@ -1,0 +1,2 @@
+pub mod Firing
+pub mod Runs

@@ -1,0 +1,5 @@
+// Runs of a certified net on a board. Nothing is public yet: the calls become so together with the statement over all their lists.
+mod going;
+mod halted;
+mod places;
+mod runs;
