@@ -42,3 +42,7 @@ accepted-past-if false why next e = (refl, e)
 pub tells-same : {A : Type 0} (first second : Outcome) (r : Result A Refusal) (P Q : A → Type 0) (U : Type 0) → first ≡ second → ((x : A) → P x → Q x) → Tells first r P U → Tells second r Q U
 tells-same first second (Ok x) P Q U e f (none, h) = (sym e ∙ none, f x h)
 tells-same first second (Err why) P Q U e f (is, h) = (sym e ∙ is, h)
+
+pub accepted-past-at : (o : Option ℕ) (why : ℕ → Refusal) (next : Outcome) → refuse-at o why next ≡ Ok tt → (o ≡ None) × (next ≡ Ok tt)
+accepted-past-at (Some p) why next e = absurd (false≢true (ap isOk e))
+accepted-past-at None why next e = (refl, e)

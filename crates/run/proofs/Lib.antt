@@ -1,2 +1,7 @@
 pub mod Walks
 pub mod Firings
+pub mod Accepts
+pub mod Chains
+pub mod Sound
+pub mod Weights
+pub mod Whole

@@ -12,3 +12,9 @@ pub struct Halted<B> {
     pub(crate) certified: Certified,
     pub(crate) board: B,
 }
+
+// A run in either state.
+pub enum Run<B> {
+    Going(Going<B>),
+    Halted(Halted<B>),
+}
