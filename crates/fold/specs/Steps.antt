@@ -10,6 +10,7 @@
 --   SameArcs      each transition takes the same set in two nets, and gives the same set
 --   Noted         a fusion applied before each of the first steps, and the step is what that fusion notes
 --   put-back      the set with the noted place in it where it meets the noted set, and without that place otherwise
+--   undo          the noted place of step k put back
 --   unfolded      each noted place put back, that of the last step first
 use mathlib.Core.Path.{_≡_}
 use mathlib.Core.Bool.{true, cond}
@@ -80,6 +81,9 @@ Noted n steps count = (k : ℕ) → k < count → (isSome (fusion-of (folding n 
 
 abbrev pub put-back : ℕ → ℕ → ℕ → ℕ
 put-back p meeting s = cond (eqb (intersection meeting s) 0) (difference s (2 ^ p)) (union s (2 ^ p))
+
+abbrev pub undo : List Step → ℕ → ℕ → ℕ
+undo steps k s = put-back (getD steps k nothing-noted .place) (getD steps k nothing-noted .set) s
 
 abbrev pub unfolded : List Step → ℕ → ℕ
 unfolded [] s = s

@@ -21,6 +21,14 @@ fn swap(set: u64, step: Step) -> u64
     }
 }
 
+// The marks, where a mark on the noted place moves to the noted places.
+fn moved_marks(net: &Net, step: Step) -> u64
+    requires { ⌜ step .place < 64 ⌝ }
+    ensures { λ r. ⌜ r ≡ swapped (step .place) (step .set) (drawn (now (net .entry)) .marks) ⌝ }
+{
+    swap(net.marks(), step)
+}
+
 // Gives arcs that the net does not refuse.
 fn give(net: &mut Net, transition: u8, taken: u64, given: u64)
     requires { ⌜ arcs-outcome (drawn (now net)) transition taken given ≡ Ok tt ⌝ }
@@ -36,7 +44,7 @@ pub(crate) fn replace(net: &Net, transition: u8, step: Step) -> Net
     ensures { λ r. ⌜ drawn r ≡ replaced (drawn (now (net .entry))) transition (step .place) (step .set) ⌝ }
 {
     let mut after = Net::new();
-    let _ = after.draw(net.places(), net.transitions(), swap(net.marks(), step));
+    let _ = after.draw(net.places(), net.transitions(), moved_marks(net, step));
     for t in 0..net.transitions() {
         if t != transition {
             give(

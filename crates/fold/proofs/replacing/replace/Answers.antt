@@ -16,8 +16,8 @@ loop-t-holds c =
     let net = c .args .net .now in
     let step = c .args .step in
     let n = replaced (drawn net) (c .args .transition) (step .place) (step .set) in
-    part-none n (c .new-after .result) (c .draw .last .self) (c .places .result) (c .transitions .result) (c .swap .result) (c .draw .result) (c .pre .kept) (net .placed) (net .counted)
-    (c .places .ensures) (c .transitions .ensures) (c .swap .ensures ∙ ap (swapped (step .place) (step .set)) (c .marks .ensures)) (c .draw .ensures .answer) (c .draw .ensures .after)
+    part-none n (c .new-after .result) (c .draw .last .self) (c .places .result) (c .transitions .result) (c .moved-marks .result) (c .draw .result) (c .pre .kept) (net .placed) (net .counted)
+    (c .places .ensures) (c .transitions .ensures) (c .moved-marks .ensures) (c .draw .ensures .answer) (c .draw .ensures .after)
 
 pub loop-t-again : need.loop-t-again
 loop-t-again c =
@@ -30,8 +30,8 @@ loop-t-again c =
     elim (c .if-t-transition .came) [
       | then-t-transition w ↦
           let other = ne-eqb t x (w .if-t-transition .taken) in
-          let taken = w .swap-then-t-transition .ensures ∙ ap (swapped (step .place) (step .set)) (w .takes .ensures) ∙ sym (cond-false (eqb t x) 0 (swapped (step .place) (step .set) (drawn net .takes t)) other) in
-          let given = w .swap-then-t-transition-2 .ensures ∙ ap (swapped (step .place) (step .set)) (w .gives .ensures) ∙ sym (cond-false (eqb t x) 0 (swapped (step .place) (step .set) (drawn net .gives t)) other) in
+          let taken = w .swap .ensures ∙ ap (swapped (step .place) (step .set)) (w .takes .ensures) ∙ sym (cond-false (eqb t x) 0 (swapped (step .place) (step .set) (drawn net .takes t)) other) in
+          let given = w .swap-then-t-transition .ensures ∙ ap (swapped (step .place) (step .set)) (w .gives .ensures) ∙ sym (cond-false (eqb t x) 0 (swapped (step .place) (step .set) (drawn net .gives t)) other) in
           subst (λ m. Replaced-below n (t + 1) (drawn m)) (sym (w .after-is)) (part-more n t old (drawn (w .give .last .net)) (c .loop-t .inv) (w .give .ensures ∙ ap₂ (with-arcs old t) taken given))
       | else-t-transition w ↦
           let same = eq-eqb t x (w .if-t-transition .left) in

@@ -13,18 +13,12 @@ use Rattle.refusal.specs.declared.Refusal.the-variants.{PlaceOutside}
 use Rattle.net.specs.Strands.{Strand}
 use Rattle.fold.specs.Foldings.{folded-original, folded-net, folded-steps, unfold-outcome}
 use Rattle.fold.specs.Steps.{nothing-noted, unfolded}
-use Rattle.fold.proofs.Facts.{steps-few, noted-below, folded-strands-unfold}
+use Rattle.fold.proofs.Facts.{steps-few, folded-strands-unfold}
 use Rattle.fold.proofs.Foldings.{unfolded-more}
 use Rattle.fold.proofs.folded.Folded.unfold.Needs as need
 
-pub index-self-k : need.index-self-k
-index-self-k c = let few = steps-few (c .args .self .now) in let within = c .loop-k .kept .k in let some = c .loop-k-test .taken in omega arith
-
-pub restored-unfolded-requires : need.restored-unfolded-requires
-restored-unfolded-requires c κs =
-    let within = c .loop-k .kept .k in
-    let some = c .loop-k-test .taken in
-    noted-below (c .args .self .now) (c .loop-k .k - 1) (omega arith)
+pub undone-unfolded-requires : need.undone-unfolded-requires
+undone-unfolded-requires c κs = let within = c .loop-k .kept .k in let some = c .loop-k-test .taken in omega arith
 
 pub loop-k-again : need.loop-k-again
 loop-k-again c =
@@ -37,7 +31,7 @@ loop-k-again c =
     let there : k < length (f .steps) = omega arith in
     let same : c .loop-k .k ≡ suc k = omega arith in
     c .loop-k .inv ∙ ap (λ j. unfolded (take j (f .steps)) (c .loop-k .unfolded)) same ∙ unfolded-more (f .steps) k nothing-noted (c .loop-k .unfolded) there
-    ∙ ap (unfolded (take k (f .steps))) (sym (c .restored-unfolded .ensures))
+    ∙ ap (unfolded (take k (f .steps))) (sym (c .undone-unfolded .ensures))
 
 pub returns : need.returns
 returns c =
@@ -47,8 +41,7 @@ returns c =
     let none = c .loop-k-test .left in
     let zero : c .loop-k .k ≡ 0 = omega arith in
     let all : unfolded (folded-steps f) (c .args .set) ≡ c .loop-k .unfolded = c .loop-k .inv ∙ ap (λ j. unfolded (take j (f .steps)) (c .loop-k .unfolded)) zero in
-    let inside = c .if-not-within .ensures tt .0 refl in
-    let below : c .args .set < 2 ^ folded-net f .places = subst (λ p. c .args .set < 2 ^ p) (c .places .ensures) inside in
+    let below : c .args .set < 2 ^ folded-net f .places = c .if-not-has-places .ensures tt .0 refl in
     record {
       answer = ap Ok (sym all) ∙ sym (ap (λ b. cond b (Err PlaceOutside) (Ok (unfolded (folded-steps f) (c .args .set)))) (lt-leb (2 ^ folded-net f .places) (c .args .set) below));
       strand = λ strand. subst (λ r. Strand (folded-original f) r ⊎ (r ≡ 0)) all (folded-strands-unfold f (omega arith) (c .args .set) strand);
