@@ -35,19 +35,21 @@ pub folded-keeps-covers : (f : Folded) → HasCover (folded-net f) ↔ HasCover 
 folded-keeps-covers f =
     subst (λ n. HasCover n ↔ HasCover (folded-original f)) (sym (folded-is f)) (folding-covers (folded-original f) (net-kept (f .original)) (f .original .placed) (f .count))
 
--- a strand of the folded net unfolds to a strand of the original, or to nothing
-pub folded-strands-unfold : (f : Folded) → f .count ≤ length (f .steps) → (s : ℕ) → Strand (folded-net f) s
-    → Strand (folded-original f) (unfolded (folded-steps f) s) ⊎ (unfolded (folded-steps f) s ≡ 0)
-folded-strands-unfold f long s strand =
-    folding-back (folded-original f) (net-kept (f .original)) (f .original .placed) (f .steps) (f .count) long (f .noted) (f .count) (omega arith) s
-    (inl (subst (λ n. Strand n s) (folded-is f) strand))
-
 -- there are at most 64 steps
 pub steps-few : (f : Folded) → f .count ≤ 64
 steps-few f =
     let few = folding-room (folded-original f) (net-kept (f .original)) (f .original .placed) (f .count) (λ j lt. f .noted j lt .0) in
     let most = f .original .counted in
     omega arith
+
+-- a strand of the folded net unfolds to a strand of the original, or to nothing
+pub folded-strands-unfold : (f : Folded) (s : ℕ) → Strand (folded-net f) s
+    → Strand (folded-original f) (unfolded (folded-steps f) s) ⊎ (unfolded (folded-steps f) s ≡ 0)
+folded-strands-unfold f s strand =
+    let few = steps-few f in
+    let long = f .long in
+    folding-back (folded-original f) (net-kept (f .original)) (f .original .placed) (f .steps) (f .count) (omega arith) (f .noted) (f .count) (omega arith) s
+    (inl (subst (λ n. Strand n s) (folded-is f) strand))
 
 -- ---- one fusion more
 

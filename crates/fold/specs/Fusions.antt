@@ -1,7 +1,8 @@
--- Two fusions that make a net smaller without a change of what it has as covers: of two places, and of two transitions.
+-- Two fusions that make a net smaller: of two places into one, and of two transitions into one. The net has a cover after a fusion exactly when it had one before.
 --   touches             the places that a transition takes or gives
 --   contains            whether the first set has every member of the second
 --   alone               whether no other number below k than i passes the test
+--   only-if             the number, if it is there and passes the test
 --   sole                the number below k that passes the test, if exactly one does
 --   member              the lowest member of a set, and 0 for the empty set
 --   swapped             the set with the members of `noted` in place of p, where p is in it
@@ -12,6 +13,7 @@
 --   arcs-on             the set that a transition takes, or the set that it gives
 --   sole-on             the transition that has place m on that side, if exactly one does
 --   giver, taker        the transition that gives, or takes, place m, if exactly one does
+--   joined              whether there are both a giver u and a taker v of place m, and v can be fused into u
 --   transition-fusible  whether the transition that gives place m can be fused with the one that takes it
 --   transition-fused    the net after that, with u the giver and v the taker of m
 use mathlib.Core.Bool.{Bool, true, false, cond, not, _&&_}
@@ -81,13 +83,13 @@ giver n m = sole-on n Given m
 abbrev pub taker : PetriNet → ℕ → Option ℕ
 taker n m = sole-on n Taken m
 
--- v takes nothing but m, gives at least one place, and gives none that u touches
+-- the taker v takes nothing but m, gives at least one place, and gives none that the giver u touches
 abbrev pub joined : PetriNet → ℕ → Option ℕ → Option ℕ → Bool
 joined n m (Some u) (Some v) = eqb (n .takes v) (2 ^ m) && (not (eqb (n .gives v) 0) && eqb (intersection (n .gives v) (touches n u)) 0)
 joined n m (Some u) None = false
 joined n m None v = false
 
--- m is unmarked, given by exactly one transition u and taken by exactly one transition v, which are joined by m alone
+-- m is unmarked, and exactly one transition gives it and exactly one takes it, which are joined
 abbrev pub transition-fusible : PetriNet → ℕ → Bool
 transition-fusible n m = not (has (n .marks) m) && joined n m (giver n m) (taker n m)
 

@@ -1,10 +1,14 @@
 -- Fusions one after another, and the way back.
+--   first-fusion  the first of two that is there
 --   fusion-of     the fusion that comes next: of places if there is one, at the lowest transition; else of transitions, at the lowest place
 --   Applies       the fusion can be made where it says
 --   emptied       the transition that loses its arcs by a fusion
 --   step-of       what a fusion notes: the place that leaves the net, and the set that says where it is put back
 --   net-after     the net after a fusion
+--   after-fusion  the net after a fusion, and the same net where there is none
 --   folding       the net after k fusions, or fewer where no more apply
+--   nothing-noted the step that stands where none was made: place 0 with the empty set
+--   noted-by      what a fusion notes, and nothing where there is none
 --   noted         what the next fusion notes, and nothing where none applies
 --   SameNumbers   two nets have the same places, transitions and marks
 --   SameArcs      each transition takes the same set in two nets, and gives the same set

@@ -36,7 +36,7 @@ next-again c =
     let there : u < n .transitions = omega arith in
     let both : ℕ → Bool = λ j. contains (touches n j) (touches n t) in
     passed-over (place-fusible n) t (c .next .inv)
-    (and-right (exchanges-one n t) (alone (n .transitions) both t) (not-alone (n .transitions) both t u there (c .if-u-t .taken) (sym (c .if-touches-both .ensures tt))))
+    (and-right (exchanges-one n t) (alone (n .transitions) both t) (not-alone (n .transitions) both t u there (c .if-u-t .taken) (sym {b = both u} (c .if-touches-both .ensures tt))))
 
 pub loop-u-again : need.loop-u-again
 loop-u-again c =
@@ -45,7 +45,7 @@ loop-u-again c =
     let u = c .loop-u .u in
     let both : ℕ → Bool = λ j. contains (touches n j) (touches n t) in
     passed-over (other both t) u (c .loop-u .inv) (elim (c .else-u-t .came) [
-      | else-u-t·by·then-u-t·else-touches-both w ↦ other-fails both t u (sym (w .if-touches-both .ensures tt))
+      | else-u-t·by·then-u-t·else-touches-both w ↦ other-fails both t u (sym {b = both u} (w .if-touches-both .ensures tt))
       | else-u-t·by·else-u-t w ↦ other-same both t u (w .if-u-t .left)
     ])
 

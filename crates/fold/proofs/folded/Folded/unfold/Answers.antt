@@ -44,5 +44,5 @@ returns c =
     let below : c .args .set < 2 ^ folded-net f .places = c .if-not-has-places .ensures tt .0 refl in
     record {
       answer = ap Ok (sym all) ∙ sym (ap (λ b. cond b (Err PlaceOutside) (Ok (unfolded (folded-steps f) (c .args .set)))) (lt-leb (2 ^ folded-net f .places) (c .args .set) below));
-      strand = λ strand. subst (λ r. Strand (folded-original f) r ⊎ (r ≡ 0)) all (folded-strands-unfold f (omega arith) (c .args .set) strand);
+      strand = λ strand. subst (λ r. Strand (folded-original f) r ⊎ (r ≡ 0)) all (folded-strands-unfold f (c .args .set) strand);
     }
