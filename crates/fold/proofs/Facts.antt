@@ -1,12 +1,11 @@
 -- What holds of every folded net, and what one more fusion makes of it.
 use mathlib.Core.Path.{_≡_, refl, sym, ap, ap₂, _∙_, subst}
 use mathlib.Core.Bool.{true, false}
-use mathlib.Core.List.{List}
 use mathlib.Core.Logic.{_⊎_, inl, ⊎-elim, _↔_}
 use Prim.Native.Nat.{ℕ, suc, _+_, _<_, _≤_}
 use native.Mathlib.Numerals.{add-one}
 use native.Mathlib.Omega.{arith}
-use lib.ListN.{length, getD, set, take}
+use lib.ListN.{length, getD, set}
 use Rattle.std.specs.Options.{isSome}
 use Rattle.std.specs.declared.option.Option.{Option}
 use Rattle.std.specs.declared.option.Option.the-variants.{Some, None}
@@ -24,7 +23,6 @@ use Rattle.fold.specs.declared.fusion.Fusion.{Fusion}
 use Rattle.fold.specs.declared.step.Step.{Step}
 use Rattle.fold.proofs.Foldings.{folding-covers, folding-room, folding-back, folding-kept, folding-few}
 use Rattle.fold.proofs.Fused.{fusion-applies, applied-replaces, applied-kept, applied-same}
-use Rattle.fold.proofs.Rooms.{busy}
 
 -- the folded net is what the fusions make of the original
 pub folded-is : (f : Folded) → folded-net f ≡ folding (folded-original f) (f .count)

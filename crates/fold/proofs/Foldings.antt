@@ -13,7 +13,7 @@ use Rattle.std.specs.declared.option.Option.the-variants.{Some, None}
 use Rattle.std.proofs.shelf.Tests.{both-ways}
 use Rattle.net.specs.Nets.{PetriNet, Kept}
 use Rattle.net.specs.Strands.{Strand, HasCover}
-use Rattle.fold.specs.Steps.{fusion-of, step-of, net-after, after-fusion, folding, noted, noted-by, nothing-noted, Noted, put-back, unfolded}
+use Rattle.fold.specs.Steps.{fusion-of, step-of, net-after, after-fusion, folding, noted-by, nothing-noted, Noted, put-back, unfolded}
 use Rattle.fold.specs.declared.fusion.Fusion.{Fusion}
 use Rattle.fold.specs.declared.fusion.Fusion.the-variants.{Places, Transitions}
 use Rattle.fold.specs.declared.step.Step.{Step}

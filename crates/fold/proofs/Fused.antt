@@ -1,8 +1,8 @@
 -- The fusion that comes next puts a noted set in place of a noted place, and keeps what every net keeps.
-use mathlib.Core.Path.{_≡_, refl, sym, ap, _∙_, subst}
-use mathlib.Core.Bool.{true, cond}
-use mathlib.Core.Logic.{⊎-elim, _↔_}
-use Prim.Native.Nat.{ℕ, _^_, _<_, _≤_}
+use mathlib.Core.Path.{_≡_, sym, ap, _∙_, subst}
+use mathlib.Core.Bool.{cond}
+use mathlib.Core.Logic.{⊎-elim}
+use Prim.Native.Nat.{ℕ, _<_, _≤_}
 use native.Mathlib.Omega.{arith}
 use lib.Dec.{eqb}
 use Rattle.std.specs.Options.{mapped, valueOr}
@@ -11,7 +11,6 @@ use Rattle.std.specs.declared.option.Option.the-variants.{Some, None}
 use Rattle.std.proofs.shelf.Tests.{cases-eq, cases-lt, cond-true, cond-false, eq-eqb, ne-eqb}
 use Rattle.net.specs.Lowest.{lowest, Lowest}
 use Rattle.net.specs.Nets.{PetriNet, Kept}
-use Rattle.net.specs.Strands.{Strand, HasCover}
 use Rattle.net.proofs.Drawn.{same-drawn}
 use Rattle.net.proofs.Lows.{lowest-is-lowest}
 use Rattle.net.proofs.Members.{in-none}
@@ -22,7 +21,7 @@ use Rattle.fold.specs.declared.fusion.Fusion.the-variants.{Places, Transitions
 use Rattle.fold.proofs.Fusibles.{place-fusible-means, transition-fusible-means}
 use Rattle.fold.proofs.PlaceFused.{place-replaces, place-kept}
 use Rattle.fold.proofs.Replaced.{Replaces}
-use Rattle.fold.proofs.Swapped.{swapped-lacking, cond-none}
+use Rattle.fold.proofs.Swapped.{swapped-lacking}
 use Rattle.fold.proofs.TransitionFused.{transition-replaces, transition-kept}
 
 pub fusion-applies : (n : PetriNet) (f : Fusion) → fusion-of n ≡ Some f → Applies n f

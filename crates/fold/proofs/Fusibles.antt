@@ -1,20 +1,19 @@
 -- What the tests for the two fusions say.
-use mathlib.Core.Path.{_≡_, refl, sym, ap, _∙_, subst}
+use mathlib.Core.Path.{_≡_, refl, sym, _∙_, subst}
 use mathlib.Core.Bool.{Bool, true, false, not, _&&_}
 use mathlib.Core.Logic.{_⊎_, inl, inr, ⊎-elim}
 use Prim.Native.Nat.{ℕ, _^_, _<_, _≤_}
 use native.Mathlib.Omega.{arith}
-use lib.Bits.{bitAnd}
 use lib.Dec.{eqb, T}
 use lib.Pow.{pow-mono}
 use Rattle.std.specs.Options.{valueOr}
 use Rattle.std.specs.declared.option.Option.{Option}
 use Rattle.std.specs.declared.option.Option.the-variants.{Some, None}
 use Rattle.std.proofs.shelf.Bits.{and-comm}
-use Rattle.std.proofs.shelf.Tests.{both-ways, eqb-true, eqb-false, eq-eqb, and-parts, not-true}
+use Rattle.std.proofs.shelf.Tests.{both-ways, eqb-true, eqb-false, and-parts, not-true}
 use Rattle.net.specs.Lowest.{Lowest, lowest-in}
 use Rattle.net.specs.Nets.{PetriNet, Kept}
-use Rattle.net.specs.Sets.{has, In, size, intersection, union, Subset}
+use Rattle.net.specs.Sets.{has, In, size, intersection}
 use Rattle.net.proofs.Lows.{lowest-is-lowest}
 use Rattle.net.proofs.Members.{has-in, in-union, in-single, single-in, in-below, same-members, some-in}
 use Rattle.net.proofs.Sizes.{size-one, size-some}

@@ -1,5 +1,5 @@
 -- Each fusion takes all arcs from a transition that had some, so there are at most as many as there are transitions.
-use mathlib.Core.Path.{_≡_, refl, sym, ap, ap₂, _∙_, subst}
+use mathlib.Core.Path.{_≡_, sym, ap, ap₂, _∙_, subst}
 use mathlib.Core.Bool.{Bool, true, false, cond}
 use mathlib.Core.Logic.{⊎-elim}
 use Prim.Native.Nat.{ℕ, zero, suc, _+_, _^_, _<_, _≤_}
@@ -9,7 +9,7 @@ use Rattle.std.proofs.shelf.Tests.{cases-eq, cond-true, cond-false, eq-eqb, ne-
 use Rattle.net.specs.Nets.{PetriNet}
 use Rattle.net.specs.Sets.{In, one-in, union}
 use Rattle.net.specs.Sums.{total}
-use Rattle.net.proofs.Members.{in-none, in-single, single-in, none-in}
+use Rattle.net.proofs.Members.{in-single, single-in, none-in}
 use Rattle.net.proofs.Sizes.{counts-once, counts-in, counts-out}
 use Rattle.net.proofs.Subsets.{union-first, union-second}
 use Rattle.net.proofs.Totals.{total-plus, total-less, term-at-most}

@@ -16,7 +16,7 @@
 --   joined              whether there are both a giver u and a taker v of place m, and v can be fused into u
 --   transition-fusible  whether the transition that gives place m can be fused with the one that takes it
 --   transition-fused    the net after that, with u the giver and v the taker of m
-use mathlib.Core.Bool.{Bool, true, false, cond, not, _&&_}
+use mathlib.Core.Bool.{Bool, false, cond, not, _&&_}
 use Prim.Native.Nat.{ℕ, _^_}
 use lib.Dec.{eqb}
 use Rattle.std.specs.Options.{isSome, valueOr}

@@ -1,10 +1,10 @@
 // Finding the fusion that comes next.
 ghost use mathlib.Core.Path.{_≡_};
-ghost use Prim.Native.Nat.{_<_, _≤_};
+ghost use Prim.Native.Nat.{_<_};
 ghost use Rattle.net.specs.Lowest.{lowest};
 ghost use Rattle.net.specs.Nets.{drawn};
 ghost use Rattle.net.specs.Sets.{has};
-ghost use Rattle.fold.specs.Fusions.{touches, contains, exchanges-one, place-fusible, arcs-on, sole-on, giver, taker, transition-fusible};
+ghost use Rattle.fold.specs.Fusions.{touches, contains, exchanges-one, place-fusible, arcs-on, sole-on, transition-fusible};
 ghost use Rattle.fold.specs.Steps.{fusion-of};
 use crate::fusion::Fusion;
 use crate::side::Side;

@@ -1,4 +1,4 @@
-use mathlib.Core.Path.{_≡_, sym, ap, subst}
+use mathlib.Core.Path.{_≡_, sym, subst}
 use mathlib.Core.Bool.{Bool, false}
 use Prim.Native.Nat.{ℕ, _+_, _<_}
 use native.Mathlib.Numerals.{add-one}
@@ -6,7 +6,7 @@ use native.Mathlib.Omega.{arith}
 use Rattle.std.specs.declared.option.Option.the-variants.{None}
 use Rattle.std.proofs.shelf.Tests.{and-from, and-left, and-right}
 use Rattle.net.specs.Lowest.{lowest}
-use Rattle.net.specs.Nets.{PetriNet, drawn}
+use Rattle.net.specs.Nets.{drawn}
 use Rattle.net.proofs.Lows.{lowest-zero, lowest-more, lowest-found}
 use Rattle.fold.specs.Fusions.{touches, contains, alone, exchanges-one, place-fusible}
 use Rattle.fold.proofs.Soles.{other, other-same, other-fails, alone-when, not-alone}

@@ -1,12 +1,10 @@
-use mathlib.Core.Path.{_≡_, refl, sym, ap, ap₂, _∙_}
+use mathlib.Core.Path.{sym, ap, _∙_}
 use Rattle.std.specs.Options.{valueOr}
-use Rattle.net.specs.Lowest.{lowest-in}
 use Rattle.net.specs.Nets.{drawn}
 use Rattle.net.specs.Sets.{has}
 use Rattle.net.proofs.Lows.{lowest-is}
 use Rattle.fold.specs.Fusions.{member}
 use Rattle.fold.specs.Steps.{emptied, step-of}
-use Rattle.fold.specs.declared.step.Step.{Step}
 use Rattle.fold.proofs.fusing.plan.Needs as need
 
 pub returns-in-Places : need.returns-in-Places

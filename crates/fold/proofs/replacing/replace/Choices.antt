@@ -1,7 +1,3 @@
-use mathlib.Core.Path.{_≡_}
-use mathlib.Core.Bool.{cond}
-use Prim.Native.Nat.{ℕ, _<_}
-use lib.Dec.{ltb}
 use Rattle.net.specs.Nets.{drawn}
 use Rattle.fold.specs.Fusions.{replaced}
 use Rattle.fold.proofs.Parts.{Replaced-below}

@@ -1,4 +1,4 @@
-use mathlib.Core.Path.{_≡_, refl, sym, ap, _∙_}
+use mathlib.Core.Path.{refl, sym, ap, _∙_}
 use mathlib.Core.List.{[], _∷_, _++_}
 use Prim.Native.Nat.{_<_}
 use native.Mathlib.Omega.{arith}
@@ -7,8 +7,7 @@ use borrow.Author.Needs.{needs}
 use Rattle.std.proofs.shelf.Lists.{take-more-set}
 use Rattle.net.specs.Nets.{drawn}
 use Rattle.net.proofs.Kept.{net-kept}
-use Rattle.fold.specs.Foldings.{folded-original, folded-net}
-use Rattle.fold.specs.Steps.{folding}
+use Rattle.fold.specs.Foldings.{folded-net}
 use Rattle.fold.proofs.Facts.{folded-keeps-covers, plan-below, plan-kept, plan-same, room-for-step, next-net, next-covers, next-noted, same-numbers, same-arcs}
 use Rattle.fold.proofs.Fused.{fusion-applies}
 use Rattle.fold.proofs.folded.Folded.fuse.Needs as need

@@ -1,17 +1,14 @@
 use mathlib.Core.Path.{_≡_, refl, sym, ap, _∙_, subst}
 use mathlib.Core.Bool.{cond}
 use mathlib.Core.Logic.{_⊎_}
-use Prim.Native.Nat.{ℕ, suc, _-_, _^_, _<_, _≤_}
+use Prim.Native.Nat.{suc, _-_, _^_, _<_}
 use native.Mathlib.Omega.{arith}
-use lib.Dec.{leb}
 use lib.ListN.{length, take}
-use Rattle.std.specs.declared.result.Result.{Result}
 use Rattle.std.specs.declared.result.Result.the-variants.{Ok, Err}
 use Rattle.std.proofs.shelf.Tests.{lt-leb}
-use Rattle.refusal.specs.declared.Refusal.{Refusal}
 use Rattle.refusal.specs.declared.Refusal.the-variants.{PlaceOutside}
 use Rattle.net.specs.Strands.{Strand}
-use Rattle.fold.specs.Foldings.{folded-original, folded-net, folded-steps, unfold-outcome}
+use Rattle.fold.specs.Foldings.{folded-original, folded-net, folded-steps}
 use Rattle.fold.specs.Steps.{nothing-noted, unfolded}
 use Rattle.fold.proofs.Facts.{steps-few, folded-strands-unfold}
 use Rattle.fold.proofs.Foldings.{unfolded-more}
