@@ -1,0 +1,16 @@
+pub mod Swapped
+pub mod Linked
+pub mod Replaced
+pub mod Keeps
+pub mod Patches
+pub mod Covers
+pub mod Soles
+pub mod PlaceFused
+pub mod TransitionFused
+pub mod Fusibles
+pub mod Parts
+pub mod Fused
+pub mod Rooms
+pub mod Foldings
+pub mod Facts
+pub mod Numbered

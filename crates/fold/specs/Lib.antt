@@ -1,0 +1,3 @@
+pub mod Fusions
+pub mod Steps
+pub mod Foldings
