@@ -18,7 +18,7 @@ use refusal::Refusal;
 
 impl<B: Board> Going<B> {
     // Lays the marks of a certified net on a board.
-    pub(crate) fn start(certified: Certified, mut board: B) -> Going<B>
+    pub fn start(certified: Certified, mut board: B) -> Going<B>
         ensures laid { λ r. ⌜ Laid (B·Lines .lit) (B·Board .closed) (certified-net certified .marks) board (r .board) ⌝ }
         ensures held { λ r. ⌜ r .certified ≡ certified ⌝ }
     {
@@ -27,7 +27,7 @@ impl<B: Board> Going<B> {
     }
 
     // Exchanges what the transition takes for what it gives, unless something refuses.
-    pub(crate) fn fire(&mut self, transition: u8) -> Result<(), Refusal>
+    pub fn fire(&mut self, transition: u8) -> Result<(), Refusal>
         ensures answer { λ r. ⌜ r ≡ fire-outcome (certified-net (now (self .entry) .certified)) (B·Lines .lit (now (self .entry) .board)) (B·Board .closed (now (self .entry) .board)) transition ⌝ }
         ensures after { λ r. ⌜ Fired (B·Lines .lit) (B·Board .closed) (certified-net (now (self .entry) .certified)) transition (now (self .entry) .board) r (now (self .exit) .board) ⌝ }
         ensures kept { λ _. ⌜ now (self .exit) .certified ≡ now (self .entry) .certified ⌝ }
@@ -51,7 +51,7 @@ impl<B: Board> Going<B> {
     }
 
     // Hands an event on a channel to the board.
-    pub(crate) fn signal(&mut self, channel: u8, event: u8)
+    pub fn signal(&mut self, channel: u8, event: u8)
         ensures after { λ _. ⌜ B·Board .signalled (now (self .entry) .board) channel event (now (self .exit) .board) ⌝ }
         ensures kept { λ _. ⌜ now (self .exit) .certified ≡ now (self .entry) .certified ⌝ }
     {
@@ -59,14 +59,14 @@ impl<B: Board> Going<B> {
     }
 
     // The lowest lit place of strand `k`, if any; refused where there is no such strand.
-    pub(crate) fn station(&self, k: u8) -> Result<Option<u8>, Refusal>
+    pub fn station(&self, k: u8) -> Result<Option<u8>, Refusal>
         ensures { λ r. ⌜ r ≡ station-outcome (λ p. agrees true (has (B·Lines .lit (now (self .entry) .board)) p)) (nth (certified-strands (now (self .entry) .certified)) k) ⌝ }
     {
         station_on(&self.certified, &self.board, k)
     }
 
     // The run, standing still.
-    pub(crate) fn halt(self) -> Halted<B>
+    pub fn halt(self) -> Halted<B>
         ensures board { λ r. ⌜ r .board ≡ self .board ⌝ }
         ensures kept { λ r. ⌜ r .certified ≡ self .certified ⌝ }
     {

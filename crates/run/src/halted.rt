@@ -16,7 +16,7 @@ use refusal::Refusal;
 
 impl<B: Board> Halted<B> {
     // Lays the marks of the net again.
-    pub(crate) fn home(&mut self)
+    pub fn home(&mut self)
         ensures laid { λ _. ⌜ Laid (B·Lines .lit) (B·Board .closed) (certified-net (now (self .entry) .certified) .marks) (now (self .entry) .board) (now (self .exit) .board) ⌝ }
         ensures kept { λ _. ⌜ now (self .exit) .certified ≡ now (self .entry) .certified ⌝ }
     {
@@ -25,7 +25,7 @@ impl<B: Board> Halted<B> {
     }
 
     // Hands an event on a channel to the board.
-    pub(crate) fn signal(&mut self, channel: u8, event: u8)
+    pub fn signal(&mut self, channel: u8, event: u8)
         ensures after { λ _. ⌜ B·Board .signalled (now (self .entry) .board) channel event (now (self .exit) .board) ⌝ }
         ensures kept { λ _. ⌜ now (self .exit) .certified ≡ now (self .entry) .certified ⌝ }
     {
@@ -33,14 +33,14 @@ impl<B: Board> Halted<B> {
     }
 
     // The lowest lit place of strand `k`, if any; refused where there is no such strand.
-    pub(crate) fn station(&self, k: u8) -> Result<Option<u8>, Refusal>
+    pub fn station(&self, k: u8) -> Result<Option<u8>, Refusal>
         ensures { λ r. ⌜ r ≡ station-outcome (λ p. agrees true (has (B·Lines .lit (now (self .entry) .board)) p)) (nth (certified-strands (now (self .entry) .certified)) k) ⌝ }
     {
         station_on(&self.certified, &self.board, k)
     }
 
     // The run, going again.
-    pub(crate) fn resume(self) -> Going<B>
+    pub fn resume(self) -> Going<B>
         ensures board { λ r. ⌜ r .board ≡ self .board ⌝ }
         ensures kept { λ r. ⌜ r .certified ≡ self .certified ⌝ }
     {
@@ -49,7 +49,7 @@ impl<B: Board> Halted<B> {
     }
 
     // Ends the run and gives the board back.
-    pub(crate) fn stop(self) -> B
+    pub fn stop(self) -> B
         ensures { λ r. ⌜ r ≡ self .board ⌝ }
     {
         let Halted {

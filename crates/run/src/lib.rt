@@ -1,8 +1,15 @@
-// Runs of a certified net on a board. Nothing is public yet: the calls become so together with the statement over all their lists.
+// Runs of a certified net on a board.
 mod calls;
-mod drives;
 mod going;
 mod halted;
 mod places;
 mod runs;
-mod steps;
+
+pub use calls::Answer;
+pub use calls::Call;
+pub use calls::Entry;
+pub use going::GoingLines;
+pub use halted::HaltedLines;
+pub use runs::Going;
+pub use runs::Halted;
+pub use runs::Run;

@@ -7,11 +7,11 @@ use lib.ListN.{take, length, getD}
 use lib.Seq.{take-suc-set, take-all}
 use Rattle.cover.specs.Certificates.{certified-net, certified-strands}
 use Rattle.cover.specs.declared.certified.Certified.{Certified}
 use Rattle.run.specs.States.{state-of, going-on, Step, Chain}
 use Rattle.run.specs.declared.calls.Entry.{Entry}
 use Rattle.run.proofs.Chains.{chain-more, calls-set}
 use Rattle.run.proofs.Whole.{run-follows, run-weighs}
-use Rattle.run.proofs.drives.drive.Needs as need
+use Rattle.rehearsal.proofs.drives.drive.Needs as need
 
 pub loop-i-holds : need.loop-i-holds
 loop-i-holds g c = (refl, refl, refl)

@@ -1,16 +1,16 @@
 // One call of a run, with its answer.
 ghost use mathlib.Core.Path.{_≡_};
 ghost use Rattle.cover.specs.Certificates.{certified-net, certified-strands};
 ghost use Rattle.run.specs.States.{state-of, certified-of, going-on, halted-on, Step};
-use crate::calls::Answer;
-use crate::calls::Call;
-use crate::going::GoingLines;
-use crate::halted::HaltedLines;
-use crate::runs::Going;
-use crate::runs::Halted;
-use crate::runs::Run;
 use board::Board;
 use board::Lines;
+use run::Answer;
+use run::Call;
+use run::Going;
+use run::GoingLines;
+use run::Halted;
+use run::HaltedLines;
+use run::Run;
 use weight::Weight;
 use weight::weigh;
 

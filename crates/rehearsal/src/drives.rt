@@ -1,15 +1,15 @@
 // A whole run: the calls of a list made one after another.
 ghost use mathlib.Core.Path.{_≡_};
 ghost use Rattle.cover.specs.Certificates.{certified-net, certified-strands};
 ghost use Rattle.run.specs.Follows.{LinesFollowTheNet, WeightsFollowTheFires};
 ghost use Rattle.run.specs.Log.{calls};
 ghost use Rattle.run.specs.States.{state-of, certified-of};
-use crate::calls::Entry;
-use crate::runs::Going;
-use crate::runs::Run;
 use crate::steps::step;
 use board::Board;
 use cover::Certified;
+use run::Entry;
+use run::Going;
+use run::Run;
 use weight::Weight;
 
 // Starts a run and makes the calls of the log one after another, writing each answer beside its call.

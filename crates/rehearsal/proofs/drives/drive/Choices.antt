@@ -1,9 +1,9 @@
 use mathlib.Core.Path.{_≡_}
 use lib.ListN.{take}
 use Rattle.cover.specs.Certificates.{certified-net, certified-strands}
 use Rattle.run.specs.Log.{calls}
 use Rattle.run.specs.States.{state-of, certified-of, Chain}
-use Rattle.run.proofs.drives.drive.Given as given
+use Rattle.rehearsal.proofs.drives.drive.Given as given
 
 -- the certified net and the calls are as they were, and the lines went from where the run started by the calls so far
 abbrev pub Inv-loop-i : given.InvT-loop-i

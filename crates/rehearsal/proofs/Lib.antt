@@ -1,0 +1,2 @@
+pub mod Proposals
+pub mod Fused
