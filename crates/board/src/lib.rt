@@ -1,4 +1,6 @@
 // Boards of 64 lines: what they mean, and the boards that there are.
+#![tactic(auto)]
+
 mod board;
 mod gate;
 mod lines;

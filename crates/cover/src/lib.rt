@@ -1,4 +1,6 @@
 // Strands, sheets and certified nets: what shows that no place of a net ever holds two tokens.
+#![tactic(auto)]
+
 mod certified;
 mod certifying;
 mod checking;

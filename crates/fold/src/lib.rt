@@ -1,4 +1,6 @@
 // Folding a net: fusions make it smaller, step by step, and sets found in the folded net are unfolded into sets of the net that it was copied from.
+#![tactic(auto)]
+
 mod finding;
 mod folded;
 mod fusing;

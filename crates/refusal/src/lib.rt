@@ -1,4 +1,6 @@
 // The refusals of the sequencer: each is a case with what it carries, and has a number by which users know it.
+#![tactic(auto)]
+
 ghost use Rattle.std.specs.Prelude.{◌≡◌};
 ghost use Rattle.refusal.specs.Numbers.{number_of, detail_of};
 

@@ -1,4 +1,6 @@
 // The rehearsal of a buyer's package: a drawing, its cover, and a list of calls on a board.
+#![tactic(auto)]
+
 mod covers;
 mod drives;
 mod folds;

@@ -1,4 +1,6 @@
 // Reports for persons, as text.
+#![tactic(auto)]
+
 mod checks;
 mod texts;
 

@@ -1,4 +1,6 @@
 // Runs of a certified net on a board.
+#![tactic(auto)]
+
 mod calls;
 mod going;
 mod halted;

@@ -1,4 +1,6 @@
 // The program: it reads a job from standard input, and writes what the command asks for.
+#![tactic(auto)]
+
 use std::env;
 use std::io::Read;
 

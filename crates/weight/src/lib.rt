@@ -1,4 +1,6 @@
 // Kinds of weight, and what the lit lines of a board weigh.
+#![tactic(auto)]
+
 mod carriers;
 mod keys;
 #[cfg(test)]
