@@ -5,8 +5,8 @@ use Rattle.fold.specs.Steps.{nothing_noted}
 use Rattle.fold.proofs.Facts.{same_numbers, same_arcs}
 use Rattle.fold.proofs.folded.Folded.new.Goals as goal
 
-pub invariant-of-result : goal.invariant-of-result
-invariant-of-result c =
+pub invariant_of-result : goal.invariant_of-result
+invariant_of-result c =
     let n = drawn c.copy-2.result in
     let n' = drawn c.copy.result in
     let same = c.copy-2.ensures ∙ sym c.copy.ensures in
