@@ -27,8 +27,8 @@ replace-self-requires c =
 pub bounds-self-self : goal.bounds-self-self
 bounds-self-self c = room_for_step c.args.self.now c.in-Some.fusion (sym c.in-Some.ensures)
 
-pub overflow-add-self : goal.overflow-add-self
-overflow-add-self c = let room = room_for_step c.args.self.now c.in-Some.fusion (sym c.in-Some.ensures) in search rules
+pub overflow_add-self : goal.overflow_add-self
+overflow_add-self c = let room = room_for_step c.args.self.now c.in-Some.fusion (sym c.in-Some.ensures) in search rules
 
 pub invariant_of-self : goal.invariant_of-self
 invariant_of-self c =
@@ -43,7 +43,12 @@ invariant_of-self c =
     let room = room_for_step f fusion next in
     let long = f.long in
     let there : f.count < length f.steps = omega arith in
-    (length-set f.steps f.count step ∙ long, (same_numbers new _ then, (same_arcs new _ then, (next_noted f fusion next step c.plan-transition.ensures.step there, tt))))
+    record {
+      long = length-set f.steps f.count step ∙ long;
+      numbered = same_numbers new _ then;
+      arced = same_arcs new _ then;
+      noted = next_noted f fusion next step c.plan-transition.ensures.step there;
+    }
 
 pub returns : goal.returns
 returns c =
