@@ -5,7 +5,7 @@ use Rattle.net.specs.Sets.{has, difference, exchange, Subset, Disjoint}
 use Rattle.net.specs.Nets.{PetriNet}
 use Rattle.net.proofs.Bits.{has_union, has_difference}
 use Rattle.weight.specs.Additions.{Addition, CommutativeMonoid, Inverts}
-use Rattle.weight.specs.Weights.{summed, weight_of, drift_of}
+use Rattle.weight.specs.Weights.{weight_of, drift_of}
 use Rattle.weight.proofs.Sums.{summed_same, summed_plus, unit_right}
 
 module _ {W : Type 0} (a : Addition W) (minus : W → W) (laws : CommutativeMonoid a) (inverts : Inverts a minus) where

@@ -1,5 +1,5 @@
 pub mod Additions
 pub mod Kinds
-pub mod Weights
-pub mod KeysWeightLemmas
 pub mod Counts
+pub mod KeySets
+pub mod Weights

@@ -1,10 +1,8 @@
 // Sets of trapped keys as weights: a key that is in both of two sets is in neither when they are added.
 ghost use Rattle.std.specs.Prelude.{◌≡◌};
-ghost use Rattle.std.proofs.Common.{ap, rules};
+ghost use Rattle.std.proofs.Common.{rules};
 ghost use Rattle.weight.specs.Kinds.{keys, itself};
-ghost use Rattle.std.specs.Int.Bits.{xor_assoc, xor_zero_l, xor_self};
-ghost use Rattle.std.proofs.lemmas.Nat.{xor_comm};
-ghost use Rattle.weight.specs.KeysWeightLemmas.{of};
+ghost use Rattle.weight.specs.KeySets.{keys_monoid, keys_inverts};
 
 use crate::weight::Weight;
 
@@ -37,13 +35,9 @@ impl Weight for Keys {
 
     ghost minus = { itself };
 
-    ghost monoid = { record {
-      associative = λ x y z. ap of (xor_assoc x.set y.set z.set);
-      commutative = λ x y. ap of (xor_comm x.set y.set);
-      unit = λ x. ap of (xor_zero_l x.set);
-    } };
+    ghost monoid = { keys_monoid };
 
-    ghost inverts = { λ x. ap of (xor_self x.set) };
+    ghost inverts = { keys_inverts };
 
     ghost exact = { Prim.search rules };
 

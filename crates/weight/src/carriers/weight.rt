@@ -1,9 +1,7 @@
 // Carriers as weights: sums wrap.
 ghost use Rattle.std.specs.Prelude.{◌≡◌, ◌+◌, ◌-◌, ◌%◌, ◌^◌};
-ghost use Rattle.std.proofs.Common.{ap, arith};
 ghost use Rattle.weight.specs.Kinds.{carriers, opposite};
-ghost use Rattle.weight.specs.Counts.{same_count};
-ghost use Rattle.weight.specs.declared.carriers.Carriers.{Carriers};
+ghost use Rattle.weight.specs.Counts.{carriers_monoid, carriers_inverts, carriers_exact};
 
 use crate::carriers::Carriers;
 use crate::weight::Weight;
@@ -31,15 +29,11 @@ impl Weight for Carriers {
 
     ghost minus = { opposite };
 
-    ghost monoid = { record {
-      associative = λ x y z. same_count _ _ (omega arith);
-      commutative = λ x y. same_count _ _ (omega arith);
-      unit = λ x. same_count _ _ (omega arith);
-    } };
+    ghost monoid = { carriers_monoid };
 
-    ghost inverts = { λ x. same_count _ _ (omega arith) };
+    ghost inverts = { carriers_inverts };
 
-    ghost exact = { λ x y r h. (λ e. same_count x y (h.0 e), λ e. h.1 (ap (λ (z : Carriers). z.count) e)) };
+    ghost exact = { carriers_exact };
 
     fn zero() -> Carriers
         ensures count { result.count ≡ 0 }

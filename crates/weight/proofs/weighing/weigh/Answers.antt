@@ -1,4 +1,4 @@
-use Rattle.std.proofs.Common.{ℕ, cond, get_or, sym, ap, ◌∙◌, ap₂, arith}
+use Rattle.std.proofs.Common.{cond, get_or, sym, ap, ◌∙◌, ap₂}
 use Rattle.std.proofs.lemmas.Bool.{cond-true, cond-false}
 use Rattle.net.specs.Sets.{has}
 use Rattle.weight.proofs.Sums.{summed_more, summed_none, unit_right}
