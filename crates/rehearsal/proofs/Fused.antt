@@ -1,5 +1,5 @@
 -- One fuse call more.
-use Rattle.std.proofs.Common.{◌≡◌, ℕ, ◌+◌, Some, None, Option, sym, refl, ap, ◌∙◌, add-one}
+use Rattle.std.proofs.Common.{◌≡◌, ℕ, ◌+◌, Some, None, Option, sym, ap, ◌∙◌, add-one}
 use Rattle.net.specs.Nets.{PetriNet}
 use Rattle.fold.specs.Foldings.{folded_original, folded_net, Fused}
 use Rattle.fold.specs.Steps.{fusion_of, after_fusion, folding}

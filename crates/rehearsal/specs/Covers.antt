@@ -1,8 +1,7 @@
 -- A cover that is sent along with a drawing.
 --   proposed        the strands on the sheet once the sets are proposed one after another, or the first refusal
 --   cover_outcome   the first refusal of the sets, and then of the certificate
-use Rattle.std.specs.Prelude.{ℕ, List, [], ◌∷◌, ◌++◌, Ok, Err, Result}
-use Rattle.refusal.specs.declared.Refusal.{Refusal}
+use Rattle.std.specs.Prelude.{ℕ, List, [], ◌∷◌, ◌++◌, Ok}
 use Rattle.refusal.specs.Outcomes.{Outcome, and_then}
 use Rattle.net.specs.Nets.{PetriNet}
 use Rattle.cover.specs.Bare.{propose_outcome}

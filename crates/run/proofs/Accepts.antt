@@ -2,7 +2,7 @@
 use Rattle.std.proofs.Common.{◌≡◌, ℕ, ◌^◌, ◌<◌, ◌≤◌, Bool, true, false, ◌&&◌, T, leb, None, Ok, Option, sym, refl, ap, ◌∙◌, arith, pow_mono}
 use Rattle.std.proofs.lemmas.Bool.{leb-false, both_ways}
 use Rattle.refusal.specs.declared.Refusal.TheVariants.{NoSuchTransition, Unlit, Occupied, Shut}
-use Rattle.refusal.specs.Outcomes.{Outcome, refuse_at}
+use Rattle.refusal.specs.Outcomes.{refuse_at}
 use Rattle.refusal.proofs.Outcomes.{accepted_past_if, accepted_past_at}
 use Rattle.net.specs.Lowest.{lowest_of}
 use Rattle.net.specs.Nets.{PetriNet, Kept}

@@ -2,7 +2,7 @@
 use Rattle.std.proofs.Common.{◌≡◌, ℕ, ◌<◌, true, false, leb, Some, None, Ok, Err, Option, sym, refl, ap, ◌∙◌, ap₂}
 use Rattle.std.proofs.lemmas.Bool.{lt-leb}
 use Rattle.refusal.specs.declared.Refusal.TheVariants.{NoSuchTransition, Unlit, Occupied, Shut}
-use Rattle.refusal.specs.Outcomes.{Outcome, refuse_at}
+use Rattle.refusal.specs.Outcomes.{refuse_at}
 use Rattle.refusal.proofs.Outcomes.{refuse_passed}
 use Rattle.net.specs.Lowest.{lowest_of}
 use Rattle.net.specs.Nets.{PetriNet}

@@ -1,5 +1,5 @@
 -- The counted net and the lines go together: from a marking that is the lit lines, a call leads to a marking that is the lit lines.
-use Rattle.std.proofs.Common.{◌≡◌, ℕ, ◌+◌, ◌-◌, ◌^◌, ◌<◌, ◌≤◌, Bool, true, false, cond, not, ◌&&◌, T, eqb, leb, ◌↔◌, List, [], ◌∷◌, is_ok, Some, None, Ok, Err, Option, sym, refl, ap, ◌∙◌, subst, ap₂, ⊎_elim, arith}
+use Rattle.std.proofs.Common.{◌≡◌, ℕ, ◌^◌, ◌<◌, ◌≤◌, Bool, true, false, cond, ◌&&◌, T, eqb, leb, List, [], ◌∷◌, is_ok, Some, None, Ok, Err, Option, sym, refl, ap, ◌∙◌, subst, ap₂, ⊎_elim, arith}
 use Rattle.std.specs.List.{slice_get}
 use Rattle.std.proofs.lemmas.Bool.{cases_Bool, cases_lt, leb-false, and_left}
 use Rattle.refusal.specs.declared.Refusal.TheVariants.{NoSuchTransition, Unlit, Occupied, Shut}
@@ -7,10 +7,10 @@ use Rattle.refusal.specs.Outcomes.{Outcome, refuse_if, refuse_at}
 use Rattle.net.specs.Counting.{Marking, initial, Enabled, fired}
 use Rattle.net.specs.Lowest.{lowest_of}
 use Rattle.net.specs.Nets.{PetriNet, Kept}
-use Rattle.net.specs.Sets.{has, In, one_in, exchange, Subset}
+use Rattle.net.specs.Sets.{has, one_in, exchange, Subset}
 use Rattle.net.specs.Strands.{HasCover}
 use Rattle.net.proofs.Lows.{lowest_when_none}
-use Rattle.net.proofs.Members.{in_below, has_in, has_out}
+use Rattle.net.proofs.Members.{in_below, has_out}
 use Rattle.net.proofs.Sizes.{counts_in, counts_out, counts_once}
 use Rattle.net.proofs.Tokens.{OneToken, one_token_at_start, one_token_fired, given_are_empty, lines_follow, enabled_lit}
 use Rattle.board.specs.Rules.{Laid}

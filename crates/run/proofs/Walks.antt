@@ -1,5 +1,5 @@
 -- A set walked by its lowest member, until one passes a test.
-use Rattle.std.proofs.Common.{◌≡◌, ℕ, ◌*◌, ◌%◌, ◌^◌, ◌<◌, Bool, true, false, ◌&&◌, T, Some, None, sym, refl, ap, ◌∙◌, subst, ap₂, ⊎_elim, mod-eq_of_lt, one-mul}
+use Rattle.std.proofs.Common.{◌≡◌, ℕ, ◌*◌, ◌%◌, ◌^◌, ◌<◌, Bool, true, false, ◌&&◌, T, Some, None, sym, refl, ap, ◌∙◌, subst, ⊎_elim, mod-eq_of_lt, one-mul}
 use mathlib.Core.Bool.{beq}
 use lib.Pow.{pow-lt}
 use Rattle.std.proofs.lemmas.Bool.{both_ways, cases_Bool, cases_eq, and_from, and_left, and_right}
@@ -7,7 +7,7 @@ use Rattle.net.specs.Lowest.{Lowest, lowest_of}
 use Rattle.net.specs.Sets.{has, In, difference}
 use Rattle.run.specs.Firing.{agrees}
 use Rattle.net.proofs.Lows.{lowest_is}
-use Rattle.net.proofs.Members.{has_in, has_out, in_difference_single}
+use Rattle.net.proofs.Members.{has_in, in_difference_single}
 use Rattle.net.proofs.Subsets.{difference_first, subset_less}
 
 -- what is left lies in the set, and what is gone from it failed the test

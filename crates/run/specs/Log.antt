@@ -2,7 +2,7 @@
 --   calls         its calls
 --   accepted      the fires that were accepted since the start or the last home, the latest first
 --   NoneOccupied  no fire was refused for a place that it gives and that is lit
-use Rattle.std.specs.Prelude.{◌≡◌, ℕ, cond, List, [], ◌∷◌, map, ◌≢◌}
+use Rattle.std.specs.Prelude.{ℕ, cond, List, [], ◌∷◌, map, ◌≢◌}
 use Rattle.std.specs.List.{AllByRecursion}
 use Rattle.refusal.specs.declared.Refusal.TheVariants.{Occupied}
 use Rattle.run.specs.Calls.{is_done}

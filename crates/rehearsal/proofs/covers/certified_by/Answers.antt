@@ -1,17 +1,17 @@
-use Rattle.std.proofs.Common.{◌≡◌, ℕ, ◌+◌, ◌<◌, ◌≤◌, List, [], ◌∷◌, ◌++◌, length, get_or, take, drop, Ok, Err, sym, refl, ap, ◌∙◌, subst, ap₂, arith}
+use Rattle.std.proofs.Common.{◌≡◌, ◌+◌, [], ◌∷◌, ◌++◌, get_or, drop, Ok, Err, sym, ap, ◌∙◌, ap₂}
 use Rattle.std.proofs.lemmas.List.{take_more, take_all}
 use Rattle.std.proofs.lemmas.Result.{err_from_is_err_and}
 use Rattle.cover.specs.Bare.{propose_outcome}
 use Rattle.cover.specs.Certificates.{certify_outcome}
 use Rattle.cover.specs.Sheets.{sheet_net, sheet_strands}
-use Rattle.net.specs.Nets.{PetriNet, drawn}
-use Rattle.rehearsal.specs.Covers.{proposals, cover_outcome}
+use Rattle.net.specs.Nets.{drawn}
+use Rattle.rehearsal.specs.Covers.{proposals}
 use Rattle.rehearsal.proofs.Proposals.{next_accepted, next_refused, cover_refused, cover_certified, all_proposed}
 use Rattle.rehearsal.proofs.covers.certified_by.Goals as goal
 
 pub returns-in_err-propose : goal.returns-in_err-propose
 returns-in_err-propose c =
-    let p = err_from_is_err_and c.from-residual.result c.from-residual.ensures.1 in
+    let p = err_from_is_err_and c.from_residual.result c.from_residual.ensures.1 in
     let n = drawn c.args.net in
     let sets = c.args.sets.now in
     let i = c.loop-set.set-index in
@@ -42,7 +42,7 @@ loop-set-preserved c =
 
 pub returns-in_err-certify : goal.returns-in_err-certify
 returns-in_err-certify c =
-    let p = err_from_is_err_and c.from-residual-in_err-certify.result c.from-residual-in_err-certify.ensures.1 in
+    let p = err_from_is_err_and c.from_residual-in_err-certify.result c.from_residual-in_err-certify.ensures.1 in
     let n = drawn c.args.net in
     let sets = c.args.sets.now in
     let i = c.loop-set.set-index in

@@ -1,6 +1,5 @@
 use Rattle.std.proofs.Common.{◌≡◌, take, drop}
 use Rattle.cover.specs.Sheets.{sheet_net, sheet_strands}
-use Rattle.net.specs.Nets.{drawn}
 use Rattle.rehearsal.specs.Covers.{proposals}
 use Rattle.rehearsal.proofs.covers.certified_by.Given as goal
 

@@ -13,14 +13,14 @@ loop-call-preserved c =
     let old = c.loop-call.folded in
     let new = c.fuse.new.self in (
       fuse_keeps_original old new c.fuse.result c.fuse.ensures.after ∙ c.loop-call.invariant.0,
-      fuse_folds n c.loop-call.-call old new c.fuse.result c.loop-call.invariant.1 c.fuse.ensures.answer c.fuse.ensures.after,
+      fuse_folds n c.loop-call._call old new c.fuse.result c.loop-call.invariant.1 c.fuse.ensures.answer c.fuse.ensures.after,
     )
 
 pub returns : goal.returns
 returns c =
     let n = drawn c.args.net.now in
     let f = c.loop-call.folded in
-    let end : c.loop-call.-call ≡ c.args.fuses = omega arith in
+    let end : c.loop-call._call ≡ c.args.fuses = omega arith in
     record {
       original = c.loop-call.invariant.0;
       folded = c.loop-call.invariant.1 ∙ ap (folding n) end;

@@ -5,4 +5,4 @@ use Rattle.net.specs.Nets.{drawn}
 use Rattle.rehearsal.proofs.folds.folded_by.Given as goal
 
 abbrev pub invariant-loop-call : goal.invariant-loop-call
-invariant-loop-call l = (folded_original l.folded ≡ drawn l.net) × (folded_net l.folded ≡ folding (drawn l.net) l.-call)
+invariant-loop-call l = (folded_original l.folded ≡ drawn l.net) × (folded_net l.folded ≡ folding (drawn l.net) l._call)

@@ -1,4 +1,4 @@
-use Rattle.std.proofs.Common.{◌≡◌, ℕ, ◌<◌, Some, None, refl, ap, ◌∙◌, subst, ap₂, arith}
+use Rattle.std.proofs.Common.{◌<◌, Some, None, refl, ap, ◌∙◌, subst, ap₂, arith}
 use Rattle.board.specs.Rules.{Laid}
 use Rattle.cover.specs.Certificates.{certified_net}
 use Rattle.net.specs.Nets.{PetriNet}
