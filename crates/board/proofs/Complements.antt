@@ -1,5 +1,5 @@
 -- The complement of a set of k lines, and what is past the last line.
-use Rattle.std.proofs.Common.{◌≡◌, ℕ, zero, suc, ◌-◌, ◌/◌, ◌%◌, ◌^◌, ◌<◌, ◌≤◌, Bool, true, false, not, ◌&&◌, eqb, sym, refl, ap, ◌∙◌, ap₂, pow-suc, arith}
+use Rattle.std.proofs.Common.{◌≡◌, ℕ, zero, suc, ◌-◌, ◌/◌, ◌%◌, ◌^◌, ◌<◌, ◌≤◌, false, not, ◌&&◌, eqb, sym, refl, ap, ◌∙◌, pow-suc, arith}
 use lib.Bits.{and_lt, xor_lt}
 use Rattle.net.specs.Sets.{has, intersection, difference}
 use Rattle.net.proofs.Bits.{has_first, has_next, by_digit, digit_below, has_intersection, has_difference, same_bits}

@@ -1,10 +1,10 @@
 -- A set that is copied line by line.
-use Rattle.std.proofs.Common.{◌≡◌, ℕ, ◌+◌, ◌*◌, ◌%◌, ◌^◌, ◌<◌, ◌≤◌, Bool, true, false, ◌||◌, eqb, sym, refl, ap, ◌∙◌, subst, ap₂, ⊎_elim, arith, pow_mono}
+use Rattle.std.proofs.Common.{◌≡◌, ℕ, ◌+◌, ◌*◌, ◌%◌, ◌^◌, ◌<◌, ◌≤◌, Bool, true, false, ◌||◌, sym, refl, ap, ◌∙◌, subst, ⊎_elim, arith, pow_mono}
 use lib.Pow.{pow-lt}
 use lib.Bits.{bit_or, or_lt}
 use Rattle.std.proofs.lemmas.Nat.{one_shl}
 use Rattle.std.proofs.lemmas.Bool.{cases_eq, eq-eqb, ne_eqb}
-use Rattle.net.specs.Sets.{has, union}
+use Rattle.net.specs.Sets.{has}
 use Rattle.net.proofs.Bits.{has_union, has_single, same_bits}
 use Rattle.board.proofs.Complements.{has_past}
 

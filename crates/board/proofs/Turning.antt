@@ -3,7 +3,7 @@ use Rattle.std.proofs.Common.{◌≡◌, ℕ, ◌/◌, ◌%◌, ◌^◌, ◌<◌
 use mathlib.Core.Bool.{beq}
 use native.Mathlib.Bridge.{le_prop}
 use lib.Bits.{bit_xor, xor_assoc, xor_self, xor_zero_r, xor_shr, xor_mod}
-use Rattle.net.specs.Sets.{has, union, intersection, difference, exchange}
+use Rattle.net.specs.Sets.{has, union, difference, exchange}
 use Rattle.net.proofs.Bits.{by_digit, digit_below, has_intersection, has_union, has_difference}
 use Rattle.net.proofs.Members.{same_members}
 use Rattle.board.specs.Rules.{Laid, Exchanged}

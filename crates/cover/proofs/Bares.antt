@@ -1,9 +1,9 @@
 -- Bare places by their members, one strand more, and room for the next strand.
-use Rattle.std.proofs.Common.{◌≡◌, ℕ, zero, suc, ◌+◌, ◌-◌, ◌/◌, ◌%◌, ◌^◌, ◌<◌, ◌≤◌, Bool, true, false, T, eqb, ◌⊎◌, ◌↔◌, List, [], ◌∷◌, ◌++◌, length, get_or, take, set, is_ok, Ok, Err, sym, refl, ap, ◌∙◌, subst, inl, inr, ⊎_elim, pow-suc, arith, pow_pos}
+use Rattle.std.proofs.Common.{◌≡◌, ℕ, zero, suc, ◌+◌, ◌-◌, ◌/◌, ◌%◌, ◌^◌, ◌<◌, ◌≤◌, true, T, eqb, ◌↔◌, List, [], ◌∷◌, ◌++◌, length, take, set, is_ok, Ok, Err, sym, refl, ap, ◌∙◌, subst, inl, inr, ⊎_elim, pow-suc, arith, pow_pos}
 use Rattle.std.proofs.lemmas.Nat.{ones-le}
 use Rattle.std.proofs.ByRecursion.{All-get_or, All-from_get_or, All-push}
 use Rattle.std.proofs.lemmas.List.{take_more_set}
-use Rattle.std.proofs.lemmas.Bool.{eqb-false, ne_eqb, cases_eq, false≢true}
+use Rattle.std.proofs.lemmas.Bool.{eqb-false, ne_eqb, false≢true}
 use Rattle.refusal.specs.declared.Refusal.TheVariants.{NoBarePlace}
 use Rattle.net.specs.Nets.{PetriNet}
 use Rattle.refusal.specs.Outcomes.{Outcome, refuse_if, and_then, Accepts}

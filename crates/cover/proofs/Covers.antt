@@ -1,12 +1,12 @@
 -- Strands that leave no place bare are a cover, so the net is safe and contact-free.
-use Rattle.std.proofs.Common.{◌≡◌, ℕ, ◌<◌, ◌≤◌, true, false, T, List, Some, None, Ok, Option, sym, refl, ap, ◌∙◌, subst, arith}
+use Rattle.std.proofs.Common.{◌≡◌, ℕ, ◌≤◌, T, List, Some, None, Ok, Option, sym, ap, ◌∙◌, subst, arith}
 use Rattle.std.proofs.lemmas.Bool.{false≢true}
 use Rattle.refusal.specs.declared.Refusal.TheVariants.{Bare}
 use Rattle.net.specs.Counting.{Safe, ContactFree}
 use Rattle.net.specs.Lowest.{Lowest, lowest_in}
-use Rattle.net.specs.Nets.{PetriNet, drawn}
+use Rattle.net.specs.Nets.{PetriNet}
 use Rattle.refusal.specs.Outcomes.{refuse_at}
-use Rattle.net.specs.Sets.{has, In}
+use Rattle.net.specs.Sets.{has}
 use Rattle.net.specs.Strands.{Cover}
 use Rattle.net.proofs.Kept.{net_kept}
 use Rattle.net.proofs.Lows.{lowest_is}

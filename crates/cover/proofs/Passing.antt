@@ -1,5 +1,5 @@
 -- A set passes the check exactly where it is a strand.
-use Rattle.std.proofs.Common.{◌≡◌, ℕ, ◌^◌, ◌<◌, ◌≤◌, Bool, true, false, not, ◌&&◌, eqb, ltb, leb, List, length, get_or, is_ok, None, Ok, Err, Option, sym, refl, ap, ◌∙◌, subst, arith}
+use Rattle.std.proofs.Common.{◌≡◌, ℕ, ◌^◌, ◌<◌, ◌≤◌, true, false, not, eqb, ltb, leb, List, get_or, is_ok, None, Ok, Err, Option, sym, ap, ◌∙◌, subst, arith}
 use Rattle.std.specs.List.{AllByRecursion}
 use Rattle.std.proofs.ByRecursion.{All-from_get_or}
 use Rattle.std.proofs.lemmas.Bool.{eqb-true, eqb-false, leb-true, leb-false, ltb-false, eq-eqb, ne_eqb, le-leb, lt-leb, le-ltb, and_parts, and_from, not-false, not_from_true, false≢true}
@@ -8,7 +8,7 @@ use Rattle.net.specs.Lowest.{lowest}
 use Rattle.net.specs.Nets.{PetriNet}
 use Rattle.refusal.specs.Outcomes.{Outcome, refuse_if, refuse_at, Accepts}
 use Rattle.net.specs.Sets.{size, intersection}
-use Rattle.net.specs.Strands.{Strand, ThinAt}
+use Rattle.net.specs.Strands.{Strand}
 use Rattle.net.proofs.Lows.{lowest_none, lowest_when_none}
 use Rattle.refusal.proofs.Outcomes.{ok_past_if, ok_past_at}
 use Rattle.cover.specs.Checks.{even_at, thin_at, even_and_thin_at, check_outcome, Checked}

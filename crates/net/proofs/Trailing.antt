@@ -1,5 +1,5 @@
 -- The trailing zeros of a number lead to its lowest member; a number below 2 ^ k as a test.
-use Rattle.std.proofs.Common.{◌≡◌, ℕ, zero, suc, ◌-◌, ◌/◌, ◌%◌, ◌^◌, ◌<◌, ◌≤◌, min, Bool, true, false, eqb, leb, Some, Decides, sym, refl, ap, ◌∙◌, ⊎_elim, pow-suc, arith, pow_pos, pow_mono}
+use Rattle.std.proofs.Common.{◌≡◌, ℕ, zero, suc, ◌-◌, ◌/◌, ◌%◌, ◌^◌, ◌<◌, ◌≤◌, min, false, eqb, leb, Some, Decides, refl, ap, ◌∙◌, ⊎_elim, pow-suc, arith, pow_pos, pow_mono}
 use lib.Count.{count_trailing_zeros, under}
 use Rattle.std.proofs.lemmas.Bool.{leb-true, le-leb, cases_lt}
 use Rattle.net.specs.Sets.{has}

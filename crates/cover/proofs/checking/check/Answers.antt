@@ -12,7 +12,7 @@ returns-in-Some c =
     let s = c.args.set in
     let r : Outcome = Err (NotEvenOrNotThin c.in-Some.transition) in
     let answer : r ≡ check_outcome n s =
-    found_at n s c.places.result (Some c.in-Some.transition) c.places.ensures c.if-set-eq0.false (c.if-not-within.ensures.0 refl) (sym c.if-two-marks.ensures) c.in-Some.ensures in
+    found_at n s c.places.result (Some c.in-Some.transition) c.places.ensures c.if-set-eq0.false (c.if-not-within.ensures.0 refl) (sym c.if-two_marks.ensures) c.in-Some.ensures in
     record { answer = answer; strand = strand_cases n s r answer }
 
 pub returns-in-None : goal.returns-in-None
@@ -21,5 +21,5 @@ returns-in-None c =
     let s = c.args.set in
     let r : Outcome = Ok tt in
     let answer : r ≡ check_outcome n s =
-    found_at n s c.places.result None c.places.ensures c.if-set-eq0.false (c.if-not-within.ensures.0 refl) (sym c.if-two-marks.ensures) c.in-None.ensures in
+    found_at n s c.places.result None c.places.ensures c.if-set-eq0.false (c.if-not-within.ensures.0 refl) (sym c.if-two_marks.ensures) c.in-None.ensures in
     record { answer = answer; strand = strand_cases n s r answer }

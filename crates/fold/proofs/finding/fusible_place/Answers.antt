@@ -12,11 +12,11 @@ pub loop-place-preserved : goal.loop-place-preserved
 loop-place-preserved c =
     let n = drawn c.args.net.now in
     let p = c.loop-place.place in
-    subst (λ k. lowest k (transition_fusible n) ≡ None) (sym (add-one p)) (lowest_more p (transition_fusible n) c.loop-place.invariant (sym c.if-joins-two.ensures))
+    subst (λ k. lowest k (transition_fusible n) ≡ None) (sym (add-one p)) (lowest_more p (transition_fusible n) c.loop-place.invariant (sym c.if-joins_two.ensures))
 
-pub returns-then-joins-two : goal.returns-then-joins-two
-returns-then-joins-two c =
+pub returns-then-joins_two : goal.returns-then-joins_two
+returns-then-joins_two c =
     let n = drawn c.args.net.now in
     let p = c.loop-place.place in
     let there : p < n.places = omega arith in
-    sym (lowest_found n.places (transition_fusible n) p there (sym c.if-joins-two.ensures) c.loop-place.invariant)
+    sym (lowest_found n.places (transition_fusible n) p there (sym c.if-joins_two.ensures) c.loop-place.invariant)

@@ -5,14 +5,14 @@ use Rattle.fold.specs.Fusions.{arcs_on}
 use Rattle.fold.proofs.Soles.{Only, only_sole, only_twice}
 use Rattle.fold.proofs.finding.only_one.Goals as goal
 
-pub returns-then-is-some : goal.returns-then-is-some
-returns-then-is-some c =
+pub returns-then-is_some : goal.returns-then-is_some
+returns-then-is_some c =
     let n = drawn c.args.net.now in
     let t = c.loop-t.t in
     let test : ℕ → Bool = λ k. has (arcs_on n c.args.side k) c.args.place in
     let there : t < n.transitions = omega arith in
-    let passes : test t ≡ true = sym (c.if-in-set.ensures ∙ ap (λ s. has s c.args.place) c.set-on.ensures) in
-    sym (only_twice t n.transitions test c.loop-t.found c.loop-t.invariant (sym c.if-is-some.ensures) there passes)
+    let passes : test t ≡ true = sym (c.if-in_set.ensures ∙ ap (λ s. has s c.args.place) c.set_on.ensures) in
+    sym (only_twice t n.transitions test c.loop-t.found c.loop-t.invariant (sym c.if-is_some.ensures) there passes)
 
 pub returns : goal.returns
 returns c =

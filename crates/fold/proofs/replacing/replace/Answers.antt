@@ -12,8 +12,8 @@ loop-t-init c =
     let net = c.args.net.now in
     let step = c.args.step in
     let n = replaced (drawn net) c.args.transition step.place step.set in
-    part_none n c.new-after.result c.draw.new.self c.places.result c.transitions.result c.moved-marks.result c.draw.result c.requires.kept net.placed net.counted
-    c.places.ensures c.transitions.ensures c.moved-marks.ensures c.draw.ensures.answer c.draw.ensures.after
+    part_none n c.new-after.result c.draw.new.self c.places.result c.transitions.result c.moved_marks.result c.draw.result c.requires.kept net.placed net.counted
+    c.places.ensures c.transitions.ensures c.moved_marks.ensures c.draw.ensures.answer c.draw.ensures.after
 
 pub loop-t-preserved : goal.loop-t-preserved
 loop-t-preserved c =

@@ -46,9 +46,9 @@ returns g c =
     let quiet = g.met.B.Board.quiet in
     let run = state_of c.loop-i.run in
     record {
-      certificate-kept = inv.0 ∙ c.start.ensures.held;
-      calls-kept = inv.1;
-      lines-follow-the-net = run_follows lit b.closed b.signalled w.addition quiet c.args.certified c.args.weights.now c.args.board c.start.result.board c.start.ensures.laid c.loop-i.log run chain;
-      weights-follow-the-fires = run_weighs lit b.closed b.signalled w.addition quiet c.args.certified c.args.weights.now c.args.board c.start.result.board c.start.ensures.laid c.loop-i.log run chain
+      certificate_kept = inv.0 ∙ c.start.ensures.held;
+      calls_kept = inv.1;
+      lines_follow_the_net = run_follows lit b.closed b.signalled w.addition quiet c.args.certified c.args.weights.now c.args.board c.start.result.board c.start.ensures.laid c.loop-i.log run chain;
+      weights_follow_the_fires = run_weighs lit b.closed b.signalled w.addition quiet c.args.certified c.args.weights.now c.args.board c.start.result.board c.start.ensures.laid c.loop-i.log run chain
           w.minus g.met.W.Weight.monoid g.met.W.Weight.inverts;
     }

@@ -16,11 +16,11 @@ returns-in-Ok g c =
     let weights = c.args.weights.now in
     record {
       answer = outcome;
-      lines-follow-the-net = (
-        c.drive.ensures.calls-kept,
+      lines_follow_the_net = (
+        c.drive.ensures.calls_kept,
         subst (λ (n : PetriNet). LinesFollowTheNet lit b.closed b.signalled w.addition n c.args.cover.now weights c.args.board log run) net
-            (subst (λ (ss : List ℕ). LinesFollowTheNet lit b.closed b.signalled w.addition (certified_net c.in-Ok.certified) ss weights c.args.board log run) strands c.drive.ensures.lines-follow-the-net),
+            (subst (λ (ss : List ℕ). LinesFollowTheNet lit b.closed b.signalled w.addition (certified_net c.in-Ok.certified) ss weights c.args.board log run) strands c.drive.ensures.lines_follow_the_net),
       );
-      weights-follow-the-fires = subst (λ (n : PetriNet). WeightsFollowTheFires w.addition w.minus n log (lit run.board)) net c.drive.ensures.weights-follow-the-fires;
-      folding-keeps-covers = (c.folded-by-folded.ensures.folded, c.folded-by-folded.ensures.covers);
+      weights_follow_the_fires = subst (λ (n : PetriNet). WeightsFollowTheFires w.addition w.minus n log (lit run.board)) net c.drive.ensures.weights_follow_the_fires;
+      folding_keeps_covers = (c.folded_by-folded.ensures.folded, c.folded_by-folded.ensures.covers);
     }

@@ -35,4 +35,4 @@ returns-then-read-wanted g c =
 pub returns : goal.returns
 returns g c =
     let test : ℕ → Bool = λ p. agrees c.args.wanted (has (g.L.Lines.lit c.args.lines.now) p) in
-    walk_ends c.args.set c.loop-place.rest test c.loop-place.invariant c.in-default.ensures
+    walk_ends c.args.set c.loop-place.rest test c.loop-place.invariant c.in_default.ensures

@@ -1,5 +1,4 @@
-use Rattle.std.proofs.Common.{◌≡◌, ℕ, ◌<◌, ap, ◌∙◌, arith}
-use Rattle.net.specs.Sets.{has}
+use Rattle.std.proofs.Common.{ap, ◌∙◌, arith}
 use Rattle.board.specs.Wear.{relay_at, switched, Switched}
 use Rattle.board.specs.Rows.{set_none, set_more, set_all}
 use Rattle.board.proofs.relays.Relays.switch.Goals as goal
@@ -12,7 +11,7 @@ loop-n-preserved c =
     let row = c.loop-n.self in
     let n = c.loop-n.n in
     set_more c.args.set n c.args.self.now.relays row.relays c.switch.result (omega (arith, row.long)) c.loop-n.invariant
-    (c.switch.ensures ∙ ap (λ b. switched b (relay_at row.relays n)) c.has-line.ensures)
+    (c.switch.ensures ∙ ap (λ b. switched b (relay_at row.relays n)) c.has_line.ensures)
 
 pub returns : goal.returns
 returns c =

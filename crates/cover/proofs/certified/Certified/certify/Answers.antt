@@ -6,12 +6,16 @@ use Rattle.cover.proofs.Bares.{bare_none_covers}
 use Rattle.cover.proofs.Covers.{certify_by_lowest, none_lowest, some_not_covered}
 use Rattle.cover.proofs.certified.Certified.certify.Goals as goal
 
-pub invariant-of-self : goal.invariant-of-self
-invariant-of-self c =
+pub invariant_of-self : goal.invariant_of-self
+invariant_of-self c =
     let sheet = c.args.sheet in
     let room = sheet.room in
     let most = sheet.net.placed in
-    (omega arith, (sheet.checked, (none_lowest (sheet_net sheet) (sheet_strands sheet) sheet.bare sheet.bared most c.in-None.ensures, tt)))
+    record {
+      numbered = omega arith;
+      checked = sheet.checked;
+      covered = none_lowest (sheet_net sheet) (sheet_strands sheet) sheet.bare sheet.bared most c.in-None.ensures;
+    }
 
 pub returns-in-Some : goal.returns-in-Some
 returns-in-Some c =

@@ -1,4 +1,4 @@
-use Rattle.std.proofs.Common.{◌≡◌, ◌<◌, ◌≤◌, length, is_ok, Ok, Err, sym, refl, ap, ◌∙◌, arith, rules}
+use Rattle.std.proofs.Common.{◌≡◌, ◌<◌, length, is_ok, Ok, Err, sym, refl, ap, ◌∙◌, arith, rules}
 use Rattle.std.proofs.lemmas.List.{take_more_set}
 use Rattle.std.proofs.lemmas.Bool.{eq-eqb, ne_eqb}
 use Rattle.refusal.specs.declared.Refusal.TheVariants.{NoBarePlace}
@@ -17,7 +17,7 @@ returns-then-fresh-eq0 c =
     let r : Outcome = Err NoBarePlace in
     let answer : r ≡ propose_outcome n ss s =
     sym (ap (λ b. refuse_if b NoBarePlace (Ok tt)) (eq-eqb _ 0 c.if-fresh-eq0.true))
-    ∙ answer_by_bare n ss s old.bare old.bared c.in-ok-check.field-0 c.in-ok-check.ensures.answer in
+    ∙ answer_by_bare n ss s old.bare old.bared c.in_ok-check.field-0 c.in_ok-check.ensures.answer in
     record { answer = answer; strand = new_cases n ss s r answer; after = refl }
 
 pub bounds-self-self : goal.bounds-self-self
@@ -27,20 +27,19 @@ bounds-self-self c =
     let most = old.net.placed in
     omega arith
 
-pub invariant-of-self : goal.invariant-of-self
-invariant-of-self c =
+pub invariant_of-self : goal.invariant_of-self
+invariant_of-self c =
     let old = c.args.self.now in
     let s = c.args.set in
     let less = room_for_one old.count old.net.places old.bare s c.if-fresh-eq0.false old.room in
     let most = old.net.placed in
     let long : length old.strands ≡ 64 = search rules in
-    let there : old.count < length old.strands = omega arith in (
-      checked_more (sheet_net old) old.strands old.count s there old.checked (sym (ap is_ok c.in-ok-check.ensures.answer)),
-      (
-        bare_more (sheet_net old) old.strands old.count old.bare s there old.bared,
-        (room_after old.count old.net.places old.bare s c.if-fresh-eq0.false old.room, tt),
-      ),
-    )
+    let there : old.count < length old.strands = omega arith in
+    record {
+      checked = checked_more (sheet_net old) old.strands old.count s there old.checked (sym (ap is_ok c.in_ok-check.ensures.answer));
+      bared = bare_more (sheet_net old) old.strands old.count old.bare s there old.bared;
+      room = room_after old.count old.net.places old.bare s c.if-fresh-eq0.false old.room;
+    }
 
 pub returns : goal.returns
 returns c =
@@ -55,5 +54,5 @@ returns c =
     let r : Outcome = Ok tt in
     let answer : r ≡ propose_outcome n ss s =
     sym (ap (λ b. refuse_if b NoBarePlace (Ok tt)) (ne_eqb _ 0 c.if-fresh-eq0.false))
-    ∙ answer_by_bare n ss s old.bare old.bared c.in-ok-check.field-0 c.in-ok-check.ensures.answer in
+    ∙ answer_by_bare n ss s old.bare old.bared c.in_ok-check.field-0 c.in_ok-check.ensures.answer in
     record { answer = answer; strand = new_cases n ss s r answer; after = (refl, take_more_set old.strands old.count s there) }

@@ -7,8 +7,8 @@ use Rattle.fold.proofs.Facts.{folded_keeps_covers, plan_below, plan_kept, plan_s
 use Rattle.fold.proofs.Fused.{fusion_applies}
 use Rattle.fold.proofs.folded.Folded.fuse.Goals as goal
 
-pub returns-in-default : goal.returns-in-default
-returns-in-default c = record { answer = c.in-default.ensures; after = refl; covers = folded_keeps_covers c.args.self.now }
+pub returns-in_default : goal.returns-in_default
+returns-in_default c = record { answer = c.in_default.ensures; after = refl; covers = folded_keeps_covers c.args.self.now }
 
 pub plan-transition-requires : goal.plan-transition-requires
 plan-transition-requires c = fusion_applies (folded_net c.args.self.now) c.in-Some.fusion (sym c.in-Some.ensures)
@@ -27,11 +27,11 @@ replace-self-requires c =
 pub bounds-self-self : goal.bounds-self-self
 bounds-self-self c = room_for_step c.args.self.now c.in-Some.fusion (sym c.in-Some.ensures)
 
-pub overflow-add-self : goal.overflow-add-self
-overflow-add-self c = let room = room_for_step c.args.self.now c.in-Some.fusion (sym c.in-Some.ensures) in search rules
+pub overflow_add-self : goal.overflow_add-self
+overflow_add-self c = let room = room_for_step c.args.self.now c.in-Some.fusion (sym c.in-Some.ensures) in search rules
 
-pub invariant-of-self : goal.invariant-of-self
-invariant-of-self c =
+pub invariant_of-self : goal.invariant_of-self
+invariant_of-self c =
     let f = c.args.self.now in
     let fusion = c.in-Some.fusion in
     let next = sym c.in-Some.ensures in
@@ -43,7 +43,12 @@ invariant-of-self c =
     let room = room_for_step f fusion next in
     let long = f.long in
     let there : f.count < length f.steps = omega arith in
-    (length-set f.steps f.count step ∙ long, (same_numbers new _ then, (same_arcs new _ then, (next_noted f fusion next step c.plan-transition.ensures.step there, tt))))
+    record {
+      long = length-set f.steps f.count step ∙ long;
+      numbered = same_numbers new _ then;
+      arced = same_arcs new _ then;
+      noted = next_noted f fusion next step c.plan-transition.ensures.step there;
+    }
 
 pub returns : goal.returns
 returns c =

@@ -1,13 +1,11 @@
-use Rattle.std.proofs.Common.{sym, ◌∙◌, arith}
-use Rattle.std.proofs.lemmas.List.{length-replicate}
+use Rattle.std.proofs.Common.{sym, refl, ◌∙◌, arith}
 use Rattle.net.specs.Nets.{drawn}
-use Rattle.fold.specs.Steps.{nothing_noted}
 use Rattle.fold.proofs.Facts.{same_numbers, same_arcs}
 use Rattle.fold.proofs.folded.Folded.new.Goals as goal
 
-pub invariant-of-result : goal.invariant-of-result
-invariant-of-result c =
+pub invariant_of-result : goal.invariant_of-result
+invariant_of-result c =
     let n = drawn c.copy-2.result in
     let n' = drawn c.copy.result in
     let same = c.copy-2.ensures ∙ sym c.copy.ensures in
-    (length-replicate 64 nothing_noted, (same_numbers n n' same, (same_arcs n n' same, ((λ k lt. absurd (omega arith)), tt))))
+    record { long = refl; numbered = same_numbers n n' same; arced = same_arcs n n' same; noted = λ k lt. absurd (omega arith) }

@@ -32,7 +32,7 @@ returns c =
     let none = c.loop-k-test.false in
     let zero : c.loop-k.k ≡ 0 = omega arith in
     let all : unfolded (folded_steps f) c.args.set ≡ c.loop-k.unfolded = c.loop-k.invariant ∙ ap (λ j. unfolded (take j f.steps) c.loop-k.unfolded) zero in
-    let below : c.args.set < 2 ^ (folded_net f).places = c.if-not-has-places.ensures.0 refl in
+    let below : c.args.set < 2 ^ (folded_net f).places = c.if-not-has_places.ensures.0 refl in
     record {
       answer = ap Ok (sym all) ∙ sym (ap (λ b. cond b (Err PlaceOutside) (Ok (unfolded (folded_steps f) c.args.set))) (lt-leb (2 ^ (folded_net f).places) c.args.set below));
       strand = λ strand. subst (λ r. Strand (folded_original f) r ⊎ (r ≡ 0)) all (folded_strands_unfold f c.args.set strand);

@@ -21,8 +21,8 @@ returns-in-Some g c =
       kept = refl;
     }
 
-pub returns-in-Some-lowest-with : goal.returns-in-Some-lowest-with
-returns-in-Some-lowest-with g c =
+pub returns-in-Some-lowest_with : goal.returns-in-Some-lowest_with
+returns-in-Some-lowest_with g c =
     let self = c.args.self.now in
     let n = certified_net self.certified in
     let t = c.args.transition in
@@ -31,7 +31,7 @@ returns-in-Some-lowest-with g c =
     let takes = c.takes-taken.ensures ∙ ap (λ (m : PetriNet). m.takes t) held in
     let gives = c.gives-given.ensures ∙ ap (λ (m : PetriNet). m.gives t) held in
     record {
-      answer = fire_occupied n (g.B.Lines.lit self.board) (g.B.Board.closed self.board) t there c.takes-taken.result c.gives-given.result takes gives c.in-Some-lowest-with.place c.in-default.ensures c.in-Some-lowest-with.ensures;
+      answer = fire_occupied n (g.B.Lines.lit self.board) (g.B.Board.closed self.board) t there c.takes-taken.result c.gives-given.result takes gives c.in-Some-lowest_with.place c.in_default.ensures c.in-Some-lowest_with.ensures;
       after = refl;
       kept = refl;
     }
@@ -49,7 +49,7 @@ returns-in-Ok g c =
     let gives = c.gives-given.ensures ∙ ap (λ (m : PetriNet). m.gives t) held in
     let done = c.in-Ok.ensures in
     record {
-      answer = fire_by_channel n (lit self.board) (closed self.board) t there c.takes-taken.result c.gives-given.result takes gives None c.in-default.ensures c.in-default-lowest-with.ensures done.0;
+      answer = fire_by_channel n (lit self.board) (closed self.board) t there c.takes-taken.result c.gives-given.result takes gives None c.in_default.ensures c.in_default-lowest_with.ensures done.0;
       after = subst (λ s. Laid lit closed s self.board c.exchange.new.self) (ap₂ (exchange (lit self.board)) takes gives) done.1;
       kept = refl;
     }
@@ -67,7 +67,7 @@ returns-in-Err g c =
     let gives = c.gives-given.ensures ∙ ap (λ (m : PetriNet). m.gives t) held in
     let refused = c.in-Err.ensures in
     record {
-      answer = fire_by_channel n (lit self.board) (closed self.board) t there c.takes-taken.result c.gives-given.result takes gives (Some c.in-Err.channel) c.in-default.ensures c.in-default-lowest-with.ensures refused.0;
+      answer = fire_by_channel n (lit self.board) (closed self.board) t there c.takes-taken.result c.gives-given.result takes gives (Some c.in-Err.channel) c.in_default.ensures c.in_default-lowest_with.ensures refused.0;
       after = refused.1;
       kept = refl;
     }
