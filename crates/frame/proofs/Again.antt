@@ -1,18 +1,17 @@
 -- A line that is read and written is the same again, and so is a frame that is written and read.
-use Rattle.std.proofs.Common.{◌≡◌, ℕ, suc, ◌+◌, ◌-◌, ◌*◌, ◌/◌, ◌%◌, ◌<◌, ◌≤◌, Bool, true, false, cond, not, ◌||◌, eqb, ltb, List, [], ◌∷◌, ◌++◌, length, get_or, take, drop, is_ok, IfOk, Ok, Err, sum, Result, sym, refl, ap, ◌∙◌, subst, ap₂, append_assoc, arith, MatchResult}
-use Rattle.std.specs.List.{AllByRecursion as All}
+use Rattle.std.proofs.Common.{◌≡◌, ℕ, suc, ◌+◌, ◌-◌, ◌*◌, ◌%◌, ◌<◌, true, not, ◌||◌, eqb, ltb, List, [], ◌∷◌, ◌++◌, length, get_or, take, drop, is_ok, IfOk, Ok, Err, sum, Result, sym, refl, ap, ◌∙◌, subst, ap₂, arith, MatchResult}
 use Rattle.std.proofs.ByRecursion.{All-append}
-use Rattle.std.proofs.lemmas.List.{take-append-drop, take_at, drop_at, drop-drop, get_or_at, length_push, length-append, length-drop, length-take-le}
+use Rattle.std.proofs.lemmas.List.{take-append-drop, take_at, get_or_at, length_push, length-drop, length-take-le}
 use Rattle.std.proofs.lemmas.Bool.{false≢true, cond-true, eqb-true, eqb-false, ltb-false, not-false, or_parts}
 use Rattle.refusal.specs.declared.Refusal.{Refusal}
 use Rattle.refusal.specs.declared.Refusal.TheVariants.{Foreign, OddOrShort, WrongCheck}
-use Rattle.refusal.specs.Outcomes.{Outcome, refuse_if}
+use Rattle.refusal.specs.Outcomes.{refuse_if}
 use Rattle.refusal.proofs.Outcomes.{accepted_past_if}
-use Rattle.frame.specs.Digits.{all_digits, number_of, bytes_of, char_of, hex_of}
+use Rattle.frame.specs.Digits.{all_digits, number_of, bytes_of, hex_of}
 use Rattle.frame.specs.Lines.{digits_in, kind_in, check_of, line_of, check_kind, check_digits}
 use Rattle.frame.specs.declared.frames.Frame.{Frame}
-use Rattle.frame.specs.Frames.{kind_of, digits_of, place_of, payload_of, Reads, DigitsRead, ReadsAs}
-use Rattle.frame.proofs.Readings.{Paired, right_check, length_bytes}
+use Rattle.frame.specs.Frames.{kind_of, place_of, payload_of, Reads, DigitsRead, ReadsAs}
+use Rattle.frame.proofs.Readings.{Paired, right_check}
 use Rattle.frame.proofs.Rounds.{Bytes, number_small, length_hex, hex_append, hex_digits, bytes_hex, hex_bytes, bytes_append, check_byte, check_sums, check_is}
 
 -- ---- written, then read

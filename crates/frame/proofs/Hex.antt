@@ -1,9 +1,9 @@
 -- Digits and bytes, one byte after another.
-use Rattle.std.proofs.Common.{◌≡◌, ℕ, ◌+◌, ◌-◌, ◌*◌, ◌%◌, ◌<◌, ◌≤◌, Bool, true, false, cond, ◌&&◌, leb, List, [], ◌∷◌, ◌++◌, length, get_or, drop, is_some, Some, None, sum, Option, unwrap_or, sym, refl, ap, ◌∙◌, ap₂, add_assoc, arith}
-use native.Mathlib.Nat.{mod-add-mod, add-mod-mod}
+use Rattle.std.proofs.Common.{◌≡◌, ℕ, ◌+◌, ◌-◌, ◌*◌, ◌%◌, ◌<◌, ◌≤◌, Bool, true, false, cond, ◌&&◌, leb, List, [], ◌∷◌, length, get_or, drop, is_some, Some, None, sum, unwrap_or, sym, refl, ap, ◌∙◌, ap₂, arith}
+use native.Mathlib.Nat.{mod-add-mod}
 use Rattle.std.proofs.lemmas.List.Sums.{sum_by-cons}
 use Rattle.std.proofs.lemmas.Bool.{leb-true, and_parts}
-use Rattle.frame.specs.Digits.{digit_of, is_digit, all_digits, number_of, bytes_of}
+use Rattle.frame.specs.Digits.{digit_of, all_digits, bytes_of}
 
 -- the first two characters are the digits of the byte high * 16 + low
 abbrev pub Front : List ℕ → ℕ → ℕ → Type 0

@@ -1,7 +1,7 @@
 -- What memory holds as a line is put into it, byte after byte.
-use Rattle.std.proofs.Common.{◌≡◌, ℕ, suc, ◌+◌, ◌-◌, ◌*◌, ◌/◌, ◌%◌, ◌<◌, ◌≤◌, List, [], ◌∷◌, ◌++◌, length, get_or, take, drop, set, sum, sym, refl, ap, ◌∙◌, ap₂, append_assoc, arith}
+use Rattle.std.proofs.Common.{◌≡◌, ℕ, suc, ◌+◌, ◌-◌, ◌*◌, ◌/◌, ◌%◌, ◌≤◌, List, [], ◌∷◌, ◌++◌, length, get_or, drop, set, sum, sym, ap, ◌∙◌, ap₂, append_assoc, arith}
 use native.Mathlib.Nat.{mod-add-mod}
-use Rattle.std.proofs.lemmas.List.{set-append_right, drop-drop, drop_more, take_more, length-drop, length-take-le, length_push}
+use Rattle.std.proofs.lemmas.List.{set-append_right, drop-drop, drop_more, length_push}
 use Rattle.std.proofs.lemmas.List.Sums.{sum_by_push}
 use Rattle.frame.specs.Digits.{char_of, hex_of}
 use Rattle.frame.specs.Lines.{check_of, line_of}

@@ -1,8 +1,8 @@
 -- The answer to a line, written and read again.
-use Rattle.std.proofs.Common.{◌≡◌, ℕ, ◌+◌, ◌*◌, ◌/◌, ◌%◌, ◌^◌, ◌<◌, ◌≤◌, List, [], ◌∷◌, ◌++◌, length, get_or, drop, Some, None, Ok, Err, Option, Result, sym, refl, ap, ◌∙◌, subst, ap₂, append-nil, arith, MatchResult}
+use Rattle.std.proofs.Common.{◌≡◌, ℕ, ◌+◌, ◌*◌, ◌^◌, ◌<◌, List, [], ◌∷◌, ◌++◌, length, get_or, drop, Some, None, Ok, Err, Option, Result, refl, ap, ◌∙◌, ap₂, append-nil, arith, MatchResult}
 use Rattle.std.proofs.lemmas.List.{drop_all}
 use Rattle.refusal.specs.declared.Refusal.{Refusal}
-use Rattle.frame.specs.Frames.{numbered, kind_of, payload_of, place_of, Reads, ReadsAs}
+use Rattle.frame.specs.Frames.{numbered, kind_of, payload_of, place_of}
 use Rattle.frame.specs.Lines.{line_of, check_kind}
 use Rattle.frame.specs.Replies.{set_bytes, answer_line, ReadsAnswer}
 use Rattle.frame.specs.Requests.{number_from, set_at, request_of}

@@ -7,7 +7,7 @@
 --   is_long         whether a payload of n bytes is as long as its kind asks
 --   check_kind      refused where there is no such kind or its payload is not so long, and else what comes next
 --   check_digits    what is wrong with the digits of a line, if anything
-use Rattle.std.specs.Prelude.{ℕ, ◌+◌, ◌-◌, ◌%◌, Bool, false, cond, not, ◌||◌, List, [], ◌∷◌, ◌++◌, length, take, drop, is_some, Some, None, Ok, sum, Option, ◌==◌, nat_lt, slice_index}
+use Rattle.std.specs.Prelude.{ℕ, ◌-◌, ◌%◌, Bool, false, cond, not, ◌||◌, List, [], ◌∷◌, ◌++◌, length, take, drop, is_some, Some, None, Ok, sum, Option, ◌==◌, nat_lt, slice_index}
 use Rattle.refusal.specs.declared.Refusal.TheVariants.{Foreign, OddOrShort, WrongCheck, UnknownKind, WrongLength}
 use Rattle.refusal.specs.Outcomes.{Outcome, refuse_if}
 use Rattle.frame.specs.Kinds.{payload_length}

@@ -1,5 +1,5 @@
 -- A report, one line further.
-use Rattle.std.proofs.Common.{◌≡◌, ℕ, ◌+◌, Bool, true, false, cond, List, ◌∷◌, ◌++◌, length, sym, refl, ap, ◌∙◌, ap₂, append_assoc}
+use Rattle.std.proofs.Common.{◌≡◌, ℕ, ◌+◌, cond, List, ◌∷◌, ◌++◌, length, sym, ap, ◌∙◌, ap₂, append_assoc}
 use Rattle.frame.specs.Cuts.{lines_of}
 use Rattle.report.specs.Checks.{is_good, finding_of, line_text, report_from}
 

@@ -1,44 +1,44 @@
-use Rattle.std.proofs.Common.{◌≡◌, ℕ, ◌<◌, ◌≤◌, length, get_or, Err, sym, ap, ◌∙◌, subst, arith, rules}
+use Rattle.std.proofs.Common.{◌≡◌, ◌≤◌, length, get_or, Err, sym, ◌∙◌, subst, arith, rules}
 use Rattle.refusal.specs.declared.Refusal.TheVariants.{WrongCheck}
 use Rattle.frame.specs.Lines.{check_digits}
 use Rattle.frame.specs.Frames.{DigitsRead, Reads}
 use Rattle.frame.proofs.Hex.{Front, digit_small}
 use Rattle.frame.proofs.Again.{result_writes}
-use Rattle.frame.proofs.Readings.{Paired, sum_passes, wrong_check, middle, reads_digits}
+use Rattle.frame.proofs.Readings.{sum_passes, wrong_check, middle, reads_digits}
 use Rattle.frame.proofs.reads.read.Goals as goal
 
 pub returns-then-sum-ne0 : goal.returns-then-sum-ne0
 returns-then-sum-ne0 c =
-    let ds = c.digits-in-digits.result.now in
-    let (none, is) = c.in-ok-sum.ensures in
+    let ds = c.digits_in-digits.result.now in
+    let (none, is) = c.in_ok-sum.ensures in
     let (digits, even) = sum_passes ds none in
     let long : 4 ≤ length ds = search rules in
     record {
-      reads = (subst (λ l. check_digits l ≡ Err WrongCheck) c.digits-in-digits.ensures (wrong_check ds (digits, even, long) (λ e. c.if-sum-ne0.true (is ∙ e))), tt);
+      reads = (subst (λ l. check_digits l ≡ Err WrongCheck) c.digits_in-digits.ensures (wrong_check ds (digits, even, long) (λ e. c.if-sum-ne0.true (is ∙ e))), tt);
       writes_again = tt;
     }
 
-pub overflow-mul-high : goal.overflow-mul-high
-overflow-mul-high c =
-    let ds = c.digits-in-digits.result.now in
+pub overflow_mul-high : goal.overflow_mul-high
+overflow_mul-high c =
+    let ds = c.digits_in-digits.result.now in
     let high = digit_small (get_or ds 0 0) c.in-Some.high (sym c.digit.ensures ∙ c.in-Some.is) in
     omega arith
 
-pub overflow-add-high : goal.overflow-add-high
-overflow-add-high c =
-    let ds = c.digits-in-digits.result.now in
+pub overflow_add-high : goal.overflow_add-high
+overflow_add-high c =
+    let ds = c.digits_in-digits.result.now in
     let high = digit_small (get_or ds 0 0) c.in-Some.high (sym c.digit.ensures ∙ c.in-Some.is) in
     let low = digit_small (get_or ds 1 0) c.in-Some-digit.low (sym c.digit-2.ensures ∙ c.in-Some-digit.is) in
     omega arith
 
 pub returns : goal.returns
 returns c =
-    let ds = c.digits-in-digits.result.now in
-    let (none, is) = c.in-ok-sum.ensures in
+    let ds = c.digits_in-digits.result.now in
+    let (none, is) = c.in_ok-sum.ensures in
     let (digits, even) = sum_passes ds none in
     let long : 4 ≤ length ds = search rules in
     let front : Front ds c.in-Some.high c.in-Some-digit.low = (omega arith, sym c.digit.ensures ∙ c.in-Some.is, sym c.digit-2.ensures ∙ c.in-Some-digit.is) in
-    let reading : Reads c.args.line.now c.args.place c.frame-of.result =
-    subst (λ l. DigitsRead l c.args.place c.frame-of.result) c.digits-in-digits.ensures
-    (reads_digits ds _ c.args.place c.in-Some.high c.in-Some-digit.low c.frame-of.result (digits, even, long) (sym is ∙ c.if-sum-ne0.false) front (middle ds) c.frame-of.ensures) in
-    record { reads = reading; writes_again = result_writes c.args.line.now c.args.place c.frame-of.result reading }
+    let reading : Reads c.args.line.now c.args.place c.frame_of.result =
+    subst (λ l. DigitsRead l c.args.place c.frame_of.result) c.digits_in-digits.ensures
+    (reads_digits ds _ c.args.place c.in-Some.high c.in-Some-digit.low c.frame_of.result (digits, even, long) (sym is ∙ c.if-sum-ne0.false) front (middle ds) c.frame_of.ensures) in
+    record { reads = reading; writes_again = result_writes c.args.line.now c.args.place c.frame_of.result reading }

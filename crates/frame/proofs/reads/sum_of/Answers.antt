@@ -1,8 +1,7 @@
-use Rattle.std.proofs.Common.{◌≡◌, ◌+◌, ◌-◌, ◌*◌, ◌%◌, ◌<◌, ◌≤◌, true, false, cond, not, eqb, length, take, drop, Ok, sum, sym, refl, ap, ◌∙◌, ap₂, mod-eq_of_lt, arith, rules}
+use Rattle.std.proofs.Common.{◌≡◌, ◌+◌, ◌-◌, ◌*◌, ◌%◌, ◌<◌, ◌≤◌, not, eqb, length, drop, Ok, sum, sym, ap, ◌∙◌, ap₂, mod-eq_of_lt, arith, rules}
 use Rattle.refusal.specs.Outcomes.{refuse_if}
 use Rattle.refusal.specs.declared.Refusal.TheVariants.{Foreign, OddOrShort}
 use Rattle.std.proofs.lemmas.List.{take_rest, nil_from_length, length-drop}
-use Rattle.std.proofs.lemmas.Bool.{ne_eqb}
 use Rattle.frame.specs.Digits.{all_digits, bytes_of}
 use Rattle.frame.proofs.Hex.{Front, digits_after_front, sum_at_front}
 use Rattle.frame.proofs.reads.sum_of.Goals as goal
@@ -22,8 +21,8 @@ loop-rest-preserved c =
       ap (λ l. ((c.loop-rest.sum + (high * 16 + low)) % 256 + sum (bytes_of l)) % 256) (take_rest rest 2) ∙ sum_at_front rest high low c.loop-rest.sum front ∙ inv.3,
     )
 
-pub returns-in-default-default : goal.returns-in-default-default
-returns-in-default-default c =
+pub returns-in_default-rest : goal.returns-in_default-rest
+returns-in_default-rest c =
     let inv = c.loop-rest.invariant in
     let rest = c.loop-rest.rest.now in
     let short : length rest < 1 = search rules in

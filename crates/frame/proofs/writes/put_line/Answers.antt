@@ -1,6 +1,6 @@
-use Rattle.std.proofs.Common.{◌≡◌, ◌+◌, ◌*◌, ◌/◌, ◌%◌, ◌<◌, ◌≤◌, [], ◌∷◌, ◌++◌, length, get_or, take, drop, set, sum, sym, refl, ap, ◌∙◌, ap₂, arith}
+use Rattle.std.proofs.Common.{◌≡◌, ◌+◌, ◌*◌, ◌%◌, ◌<◌, [], ◌∷◌, ◌++◌, length, get_or, take, drop, sum, sym, refl, ap, ◌∙◌, ap₂, arith}
 use Rattle.std.proofs.lemmas.List.{take_more, take_all, length-take-le, length_push}
-use Rattle.frame.specs.Digits.{char_of, hex_of}
+use Rattle.frame.specs.Digits.{hex_of}
 use Rattle.frame.specs.Lines.{check_of}
 use Rattle.frame.proofs.Puts.{Holds, puts_byte, puts_feed, sums_byte, past_first}
 use Rattle.frame.proofs.writes.put_line.Goals as goal
@@ -41,7 +41,7 @@ returns c =
     let room = c.requires.room in
     let inv = c.loop-i.invariant in
     let bs = kind ∷ payload in
-    let check = c.wrapping-neg.result in
+    let check = c.wrapping_neg.result in
     let first : Holds m1 (kind ∷ []) 2 m0 = c.put.ensures ∙ puts_byte m0 [] m0 0 kind refl refl (omega arith) in
     let all : take c.loop-i.i payload ≡ payload = take_all c.loop-i.i payload c.loop-i-test.false in
     let end : c.loop-i.i ≡ n = omega arith in

@@ -1,4 +1,4 @@
-use Rattle.std.proofs.Common.{◌≡◌, ◌+◌, ◌*◌, sym, ◌∙◌, ap₂, arith}
+use Rattle.std.proofs.Common.{◌+◌, ◌*◌, sym, ◌∙◌, ap₂, arith}
 use Rattle.frame.proofs.Fields.{byte_at, no_byte}
 use Rattle.frame.proofs.frames.Payload.byte.Goals as goal
 

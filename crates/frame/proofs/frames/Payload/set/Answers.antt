@@ -1,4 +1,4 @@
-use Rattle.std.proofs.Common.{◌≡◌, ◌+◌, ◌*◌, ◌^◌, ◌<◌, sym, ◌∙◌, ap₂, arith}
+use Rattle.std.proofs.Common.{◌+◌, ◌*◌, sym, ◌∙◌, ap₂, arith}
 use Rattle.frame.specs.Digits.{bytes_of}
 use Rattle.frame.proofs.Fields.{number_none, number_more, wider, fits_set}
 use Rattle.frame.proofs.frames.Payload.set.Goals as goal
@@ -6,14 +6,14 @@ use Rattle.frame.proofs.frames.Payload.set.Goals as goal
 pub loop-i-init : goal.loop-i-init
 loop-i-init c = (sym (number_none _ _), omega arith)
 
-pub overflow-mul-set : goal.overflow-mul-set
-overflow-mul-set c =
+pub overflow_mul-set : goal.overflow_mul-set
+overflow_mul-set c =
     let i = c.loop-i.i in
     let more = fits_set (i + 1) (c.loop-i.set * 256 + 0) (omega arith) (wider i c.loop-i.set 0 c.loop-i.invariant.1 (omega arith)) in
     omega arith
 
-pub overflow-add-set : goal.overflow-add-set
-overflow-add-set c =
+pub overflow_add-set : goal.overflow_add-set
+overflow_add-set c =
     let i = c.loop-i.i in
     let more = fits_set (i + 1) (c.loop-i.set * 256 + c.from.result) (omega arith) (wider i c.loop-i.set c.from.result c.loop-i.invariant.1 (omega arith)) in
     omega arith
