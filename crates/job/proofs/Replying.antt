@@ -1,8 +1,8 @@
 -- The reply of a call that was accepted or refused.
-use Rattle.std.proofs.Common.{◌≡◌, ℕ, List, Ok, Err, sym, refl, ap, ◌∙◌, subst, ap₂}
+use Rattle.std.proofs.Common.{◌≡◌, ℕ, Ok, Err, refl, ap, subst}
 use Rattle.refusal.specs.Outcomes.{Outcome}
 use Rattle.refusal.specs.declared.Refusal.{Refusal}
-use Rattle.job.specs.Replies.{Reply, comes_to, Gives}
+use Rattle.job.specs.Replies.{comes_to, Gives}
 use Rattle.job.specs.Standings.{Standing, standing_of}
 use Rattle.job.specs.declared.state.State.{State}
 

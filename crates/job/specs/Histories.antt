@@ -8,7 +8,7 @@ use Rattle.cover.specs.declared.certified.Certified.{Certified}
 use Rattle.run.specs.States.{State as RunState, going_on, halted_on, Chain}
 use Rattle.run.specs.declared.calls.Entry.{Entry}
 use Rattle.weight.specs.Additions.{Addition}
-use Rattle.job.specs.Boards.{Panel, lit, closed, relit, signalled, IsNew}
+use Rattle.job.specs.Boards.{Panel, lit, closed, signalled, IsNew}
 use Rattle.job.specs.declared.state.State.{State}
 use Rattle.job.specs.declared.state.State.TheVariants.{NoNet, Drawn, OnSheet, Going, Halted}
 
@@ -20,9 +20,9 @@ pub record Ran (c : Certified) (s : RunState Panel) : Type 0 where
   pub passed : Panel
   pub new : IsNew passed
   pub first : Panel
-  pub starts : Laid lit closed relit (certified_net c).marks passed first
+  pub starts : Laid lit closed (certified_net c).marks passed first
   pub log : List (Entry ℕ)
-  pub chain : Chain lit closed relit signalled unweighed (certified_net c) (certified_strands c) [] (going_on first) log s
+  pub chain : Chain lit closed signalled unweighed (certified_net c) (certified_strands c) [] (going_on first) log s
 
 abbrev pub HasRan : State → Type 0
 HasRan NoNet = Unit {0}

@@ -6,7 +6,7 @@
 --   obeyed      the reply to a request that is in order
 --   reply_to    the reply to any request: one out of order is refused, and changes nothing
 --   Gives       a state of the code and an answer are the reply
-use Rattle.std.specs.Prelude.{◌≡◌, ℕ, ◌+◌, Bool, true, false, cond, List, [], ◌∷◌, ◌++◌, length, None, Ok, Err, Result, ◌==◌}
+use Rattle.std.specs.Prelude.{◌≡◌, ℕ, ◌+◌, Bool, true, false, cond, [], ◌∷◌, ◌++◌, length, None, Ok, Err, Result, ◌==◌}
 use Rattle.refusal.specs.Outcomes.{Outcome}
 use Rattle.refusal.specs.declared.Refusal.{Refusal}
 use Rattle.refusal.specs.declared.Refusal.TheVariants.{OutOfOrder}
@@ -17,7 +17,6 @@ use Rattle.frame.specs.Replies.{asked_by}
 use Rattle.frame.specs.declared.requests.Request.{Request}
 use Rattle.frame.specs.declared.requests.Request.TheVariants.{Draw, Arcs, Propose, Search, Certify, Fire, Signal, Halt, Resume, Home, Answer}
 use Rattle.net.specs.Drawings.{without_arcs, with_arcs, draw_outcome, arcs_outcome}
-use Rattle.net.specs.Nets.{PetriNet}
 use Rattle.net.specs.Sets.{exchange}
 use Rattle.run.specs.Firing.{fire_outcome}
 use Rattle.job.specs.Orders.{in_order}

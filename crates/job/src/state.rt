@@ -5,7 +5,6 @@ use net::Net;
 use run::{Going, Halted};
 
 // No net yet; a net that is drawn, with or without arcs; a net on a sheet; a run that goes; a run that is halted.
-#[derive(Drop)]
 pub enum State {
     NoNet,
     Drawn(Net),

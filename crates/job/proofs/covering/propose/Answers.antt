@@ -1,4 +1,4 @@
-use Rattle.std.proofs.Common.{◌≡◌, ◌+◌, [], ◌∷◌, ◌++◌, length, refl, ap, ◌∙◌, ap₂}
+use Rattle.std.proofs.Common.{◌+◌, length, ap, ◌∙◌, ap₂}
 use Rattle.std.proofs.lemmas.List.{length_push}
 use Rattle.cover.specs.Bare.{propose_outcome}
 use Rattle.cover.specs.Sheets.{sheet_net, sheet_strands}
