@@ -1,3 +1,4 @@
 pub mod Complements
 pub mod Copies
+pub mod Rows
 pub mod Turning

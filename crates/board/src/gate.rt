@@ -65,7 +65,7 @@ impl<B> Gate<B> {
 impl<B: Lines> Lines for Gate<B> {
     ghost lit = { gate_lit B.Lines.lit };
 
-    ghost bounded = { Prim.search rules };
+    ghost bounded = { λ g. B.Lines.bounded g.below };
 
     fn read(&self, line: u8) -> bool {
         self.below.read(line)

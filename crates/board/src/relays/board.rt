@@ -2,8 +2,8 @@
 ghost use Rattle.std.specs.Prelude.{◌≡◌, replicate, None as Never, Ok as Done};
 ghost use Rattle.net.specs.Sets.{exchange};
 ghost use Rattle.board.specs.Wear.{unused, relay_at, relays_on, Switched};
-ghost use Rattle.board.specs.Rows.{relays_on_fits};
-ghost use Rattle.std.proofs.Common.{rules, arith};
+ghost use Rattle.board.specs.RelaysFit.{relays_on_fits};
+ghost use Rattle.std.proofs.Common.{rules};
 
 use crate::board::Board;
 use crate::lines::Lines;
@@ -69,7 +69,7 @@ impl Board for Relays {
 
     ghost signalled = { λ b _ _ after. after ≡ b };
 
-    ghost quiet = { first_of (Prim.search rules, Prim.grind (arith, Self.row.coded.inj)) };
+    ghost quiet = { Prim.search rules };
 
     fn shut(&self) -> Option<u8>
         ensures never { result ≡ Never }

@@ -1,6 +1,5 @@
 // Snapshots, and their lines.
 ghost use Rattle.std.specs.Prelude.{◌≡◌};
-ghost use Rattle.std.proofs.Common.{rules, arith};
 
 use crate::lines::Lines;
 use crate::sets::has_line;
@@ -38,7 +37,7 @@ impl Snapshot {
 impl Lines for Snapshot {
     ghost lit = { λ s. s.set };
 
-    ghost bounded = { first_of (Prim.search rules, Prim.grind (arith, Self.row.coded.inj)) };
+    ghost bounded = { λ s. s.fits };
 
     fn read(&self, line: u8) -> bool {
         has_line(self.set, line)

@@ -1,7 +1,7 @@
 // The word board: it is never shut and ignores signals.
 ghost use Rattle.std.specs.Prelude.{◌≡◌, None as Never, Ok as Done};
 ghost use Rattle.net.specs.Sets.{exchange};
-ghost use Rattle.std.proofs.Common.{rules, arith};
+ghost use Rattle.std.proofs.Common.{rules};
 
 use crate::board::Board;
 use crate::lines::Lines;
@@ -20,7 +20,7 @@ impl Word {
 impl Lines for Word {
     ghost lit = { λ w. w.set };
 
-    ghost bounded = { first_of (Prim.search rules, Prim.grind (arith, Self.row.coded.inj)) };
+    ghost bounded = { λ w. w.fits };
 
     fn read(&self, line: u8) -> bool {
         has_line(self.set, line)
@@ -32,7 +32,7 @@ impl Board for Word {
 
     ghost signalled = { λ w _ _ after. after ≡ w };
 
-    ghost quiet = { first_of (Prim.search rules, Prim.grind (arith, Self.row.coded.inj)) };
+    ghost quiet = { Prim.search rules };
 
     fn shut(&self) -> Option<u8>
         ensures never { result ≡ Never }

@@ -1,6 +1,6 @@
 use Rattle.std.proofs.Common.{ap, ◌∙◌, arith}
 use Rattle.board.specs.Wear.{relay_at, switched, Switched}
-use Rattle.board.specs.Rows.{set_none, set_more, set_all}
+use Rattle.board.proofs.Rows.{set_none, set_more, set_all}
 use Rattle.board.proofs.relays.Relays.switch.Goals as goal
 
 pub loop-n-init : goal.loop-n-init

@@ -1,4 +1,4 @@
-use Rattle.board.specs.Rows.{SetBelow}
+use Rattle.board.proofs.Rows.{SetBelow}
 use Rattle.board.proofs.relays.Relays.switch.Given as goal
 
 abbrev pub invariant-loop-n : goal.invariant-loop-n

@@ -1,5 +1,5 @@
 use Rattle.std.proofs.Common.{◌∙◌}
-use Rattle.board.specs.Rows.{has_relays_on}
+use Rattle.board.proofs.Rows.{has_relays_on}
 use Rattle.board.proofs.relays.board.RelaysLines.TheImpl.Goals as goal
 
 pub read-tells : goal.read-tells

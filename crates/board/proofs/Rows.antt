@@ -1,10 +1,11 @@
 -- A row of relays: the set of those that are on, and relays that are set one after another.
 use Rattle.std.specs.Prelude.{◌≡◌, ℕ, zero, suc, ◌+◌, ◌*◌, ◌/◌, ◌%◌, ◌^◌, ◌<◌, ◌≤◌, Bool, true, false, cond, List, [], ◌∷◌, length, ◌==◌, nat_eq, slice_set, refl}
-use Rattle.std.proofs.Common.{sym, ap, subst, ◌∙◌, ⊎_elim, pow-suc, arith}
+use Rattle.std.proofs.Common.{sym, ap, ◌∙◌, ⊎_elim, arith}
 use Rattle.std.proofs.lemmas.List.{get_or-set_same, get_or-set_other}
 use Rattle.std.proofs.lemmas.Bool.{cases_eq}
 use Rattle.net.specs.Sets.{has}
 use Rattle.net.proofs.Bits.{has_first, has_next, has_none, same_bits}
+use Rattle.board.specs.RelaysFit.{relays_on_fits}
 use Rattle.board.specs.Wear.{unused, switched, relay_at, relays_on}
 use Rattle.board.specs.declared.relays.relay.Relay.{Relay}
 
@@ -21,18 +22,6 @@ pub has_relays_on : (rs : List Relay) (n : ℕ) → (relay_at rs n).on ≡ has (
 has_relays_on [] n = sym (has_none n)
 has_relays_on (r ∷ rs) zero = sym (has_first (relays_on (r ∷ rs)) ∙ lowest (relays_on rs) r.on)
 has_relays_on (r ∷ rs) (suc n) = has_relays_on rs n ∙ ap (λ k. has k n) (sym (half (relays_on rs) r.on)) ∙ sym (has_next (relays_on (r ∷ rs)) n)
-
-relays_on_below : (rs : List Relay) → relays_on rs < 2 ^ length rs
-relays_on_below [] = omega arith
-relays_on_below (r ∷ rs) = step r.on (relays_on_below rs)
-  where
-    step : (b : Bool) → relays_on rs < 2 ^ length rs → relays_on rs * 2 + cond b 1 0 < 2 ^ suc (length rs)
-    step true lt = omega (arith, pow-suc 2 (length rs))
-    step false lt = omega (arith, pow-suc 2 (length rs))
-
--- 64 relays are a set of 64 lines
-pub relays_on_fits : (rs : List Relay) → length rs ≡ 64 → relays_on rs < 2 ^ 64
-relays_on_fits rs long = subst (λ k. relays_on rs < 2 ^ k) long (relays_on_below rs)
 
 -- the first n relays are set by s, and the others are as they were
 pub record SetBelow (s n : ℕ) (old rs : List Relay) : Type 0 where
