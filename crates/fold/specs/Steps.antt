@@ -1,21 +1,21 @@
 -- Fusions one after another, and the way back.
---   first_fusion  the first of two that is there
---   fusion_of     the fusion that comes next: of places if there is one, at the lowest transition; else of transitions, at the lowest place
---   Applies       the fusion can be made where it says
---   emptied       the transition that loses its arcs by a fusion
---   step_of       what a fusion notes: the place that leaves the net, and the set that says where it is put back
---   net_after     the net after a fusion
---   after_fusion  the net after a fusion, and the same net where there is none
---   folding       the net after k fusions, or fewer where no more apply
---   nothing_noted the step that stands where none was made: place 0 with the empty set
---   noted_by      what a fusion notes, and nothing where there is none
---   noted         what the next fusion notes, and nothing where none applies
---   SameNumbers   two nets have the same places, transitions and marks
---   SameArcs      each transition takes the same set in two nets, and gives the same set
---   Noted         a fusion applied before each of the first steps, and the step is what that fusion notes
---   put_back      the set with the noted place in it where it meets the noted set, and without that place otherwise
---   undo          the noted place of step k put back
---   unfolded      each noted place put back, that of the last step first
+--   first_fusion    the first of two that is there
+--   fusion_of       the fusion that comes next: of places if there is one, at the lowest transition; else of transitions, at the lowest place
+--   Applies         the fusion can be made where it says
+--   emptied         the transition that loses its arcs by a fusion
+--   step_of         what a fusion notes: the place that leaves the net, and the set that says where it is put back
+--   net_after       the net after a fusion
+--   after_fusion    the net after a fusion, and the same net where there is none
+--   folding         the net after k fusions, or fewer where no more apply
+--   nothing_noted   the step that stands where none was made: place 0 with the empty set
+--   noted_by        what a fusion notes, and nothing where there is none
+--   noted           what the next fusion notes, and nothing where none applies
+--   SameNumbers     two nets have the same places, transitions and marks
+--   SameArcs        each transition takes the same set in two nets, and gives the same set
+--   Noted           a fusion applied before each of the first steps, and the step is what that fusion notes
+--   put_back        the set with the noted place in it where it meets the noted set, and without that place otherwise
+--   undo            the noted place of step k put back
+--   unfolded        each noted place put back, that of the last step first
 use Rattle.std.specs.Prelude.{◌≡◌, ℕ, zero, suc, ◌^◌, ◌<◌, true, cond, List, [], ◌∷◌, is_some, Some, None, Option, ◌==◌, slice_index_or}
 use Rattle.std.specs.Option.{unwrap_or, option_map}
 use Rattle.net.specs.Lowest.{lowest}

@@ -1,6 +1,6 @@
 -- An input cut into lines.
 --   lines_of   the lines of an input: each ends with its line feed, which the last one may lack; an empty line is a line feed alone
---   Cut       an input cut into its first line and what comes after it
+--   Cut        an input cut into its first line and what comes after it
 use Rattle.std.specs.Prelude.{◌≡◌, ℕ, ◌+◌, ◌-◌, ◌<◌, cond, List, [], ◌∷◌, ◌++◌, length, ◌==◌, ◌≢◌, slice_index}
 
 -- lines with one character more at the front

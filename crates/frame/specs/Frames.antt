@@ -1,13 +1,13 @@
 -- What a frame holds of the line that it was read from.
---   numbered   the byte of a kind, and 0 for none
---   kind_of     its kind byte
---   digits_of   the digits of its payload, a part of the line
---   place_of    the place of the line in the input
---   DigitsRead what digits at a place are read as: refused by the first fault in them, or else a frame of their kind, with the digits
---              between those of the kind and of the check byte
---   Reads      what a line is read as
---   payload_of  the bytes of a frame's payload
---   ReadsAs    every reading of the line gives the frame of a kind and a payload, whatever the place
+--   numbered     the byte of a kind, and 0 for none
+--   kind_of      its kind byte
+--   digits_of    the digits of its payload, a part of the line
+--   place_of     the place of the line in the input
+--   DigitsRead   what digits at a place are read as: refused by the first fault in them, or else a frame of their kind, with the digits
+--                between those of the kind and of the check byte
+--   Reads        what a line is read as
+--   payload_of   the bytes of a frame's payload
+--   ReadsAs      every reading of the line gives the frame of a kind and a payload, whatever the place
 use Rattle.std.specs.Prelude.{◌≡◌, ℕ, ◌+◌, ◌-◌, List, length, take, drop, Some, None, Option, Result, MatchResult}
 use Rattle.refusal.specs.declared.Refusal.{Refusal}
 use Rattle.refusal.specs.Outcomes.{Tells}

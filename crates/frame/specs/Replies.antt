@@ -1,7 +1,7 @@
 -- The answer to a line.
---   asked_by       the kind of line that asks for something; no kind asks for an answer
---   set_bytes      a set as 8 bytes, the highest first
---   answer_line    the answer to a line of a kind, or of none: its result, its detail and the lit set, as a line
+--   asked_by      the kind of line that asks for something; no kind asks for an answer
+--   set_bytes     a set as 8 bytes, the highest first
+--   answer_line   the answer to a line of a kind, or of none: its result, its detail and the lit set, as a line
 --   ReadsAnswer   every reading of the line gives that answer
 use Rattle.std.specs.Prelude.{◌≡◌, ℕ, ◌+◌, ◌/◌, ◌%◌, List, [], ◌∷◌, Some, None, Option, Result, MatchResult}
 use Rattle.refusal.specs.declared.Refusal.{Refusal}

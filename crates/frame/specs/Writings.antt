@@ -1,6 +1,6 @@
 -- Writing a line into memory.
---   check_write  what is wrong with a kind, a payload and the length of the memory, if anything
---   Writes      refused, and the memory as it was; or the length of the line, which is in front, with the memory past it as it was
+--   check_write   what is wrong with a kind, a payload and the length of the memory, if anything
+--   Writes        refused, and the memory as it was; or the length of the line, which is in front, with the memory past it as it was
 use Rattle.std.specs.Prelude.{◌≡◌, ℕ, List, ◌++◌, length, drop, Ok, Result, nat_lt}
 use Rattle.refusal.specs.declared.Refusal.{Refusal}
 use Rattle.refusal.specs.declared.Refusal.TheVariants.{MemoryTooShort}

@@ -1,11 +1,11 @@
 -- What a request brings about: the one definition of a job.
---   Reply       accepted with a detail, or refused; and how the job stands after
---   comes_to    the reply of a call that may be refused
---   with_lit    a run with another lit set
---   signalled_by a run after a signal: on the gate's own channel its guard steps
---   obeyed      the reply to a request that is in order
---   reply_to    the reply to any request: one out of order is refused, and changes nothing
---   Gives       a state of the code and an answer are the reply
+--   Reply          accepted with a detail, or refused; and how the job stands after
+--   comes_to       the reply of a call that may be refused
+--   with_lit       a run with another lit set
+--   signalled_by   a run after a signal: on the gate's own channel its guard steps
+--   obeyed         the reply to a request that is in order
+--   reply_to       the reply to any request: one out of order is refused, and changes nothing
+--   Gives          a state of the code and an answer are the reply
 use Rattle.std.specs.Prelude.{◌≡◌, ℕ, ◌+◌, Bool, true, false, cond, [], ◌∷◌, ◌++◌, length, None, Ok, Err, Result, ◌==◌}
 use Rattle.refusal.specs.Outcomes.{Outcome}
 use Rattle.refusal.specs.declared.Refusal.{Refusal}

@@ -1,5 +1,5 @@
 -- What users see of a refusal.
---   Shown      a number, and what goes with it
+--   Shown       a number, and what goes with it
 --   shown_of    both for each case: the one table of the refusals
 --   number_of   the number alone
 --   detail_of   what the case carries alone: a transition, a place, a channel or a stage, and 0 where it carries nothing
