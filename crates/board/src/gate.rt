@@ -2,7 +2,7 @@
 ghost use Rattle.std.specs.Prelude.{◌≡◌};
 ghost use Rattle.board.specs.Guards.{stepped, gate_lit, gate_shut, SameGuard, Signalled};
 ghost use Rattle.board.specs.Rules.{Laid, Exchanged};
-ghost use Rattle.std.proofs.Common.{rules};
+ghost use Rattle.board.specs.Quiet.{gate_quiet};
 
 use crate::board::Board;
 use crate::lines::Lines;
@@ -77,7 +77,7 @@ impl<B: Board> Board for Gate<B> {
 
     ghost signalled = { Signalled B.Board.signalled };
 
-    ghost quiet = { Prim.search rules };
+    ghost quiet = { gate_quiet B.Lines.lit B.Board.signalled B.Board.quiet };
 
     fn shut(&self) -> Option<u8> {
         match self.guard {

@@ -1,9 +1,9 @@
 -- The texts that a report is made of, in ASCII.
---   reason_of                                                                 why something is refused, in words
---   members_of                                                                the members of a set between braces
---   kind_name_of                                                              the kind of a line in a word or two
+--   reason_of     why something is refused, in words
+--   members_of    the members of a set between braces
+--   kind_name_of  the kind of a line in a word or two
 --   draw_text, arcs_text, propose_text, fire_text, signal_text, answer_text   what a line of that kind says, with its fields
---   saying_of                                                                 what any line says
+--   saying_of     what any line says
 use Rattle.std.specs.Prelude.{ℕ, zero, suc, cond, List, [], ◌++◌, Some, None, codes, decimal, Option}
 use Rattle.refusal.specs.declared.Refusal.{Refusal}
 use Rattle.refusal.specs.declared.Refusal.TheVariants.{TooManyPlaces, TooManyTransitions, MarkOutside, NoSuchTransition, ArcOutside, TakenAndGiven, EmptySet, PlaceOutside, TwoMarks, NotEvenOrNotThin, NoBarePlace, Bare, Unlit, Occupied, Shut, NoSuchStrand, Foreign, OddOrShort, WrongCheck, UnknownKind, WrongLength, OutOfOrder, Spent, MemoryTooShort}

@@ -6,7 +6,6 @@ ghost use Rattle.cover.specs.Certificates.{certified_net, certified_strands};
 ghost use Rattle.net.specs.Sets.{has};
 ghost use Rattle.run.specs.Firing.{agrees, fire_outcome, station_outcome, Fired};
 ghost use Rattle.run.specs.Runs.{going_lit};
-ghost use Rattle.std.proofs.Common.{rules};
 
 use crate::places::{lowest_with, station_on};
 use crate::runs::{Going, Halted};
@@ -76,7 +75,7 @@ impl<B: Board> Going<B> {
 impl<B: Board> Lines for Going<B> {
     ghost lit = { going_lit B.Lines.lit };
 
-    ghost bounded = { Prim.search rules };
+    ghost bounded = { λ run. B.Lines.bounded run.board };
 
     fn read(&self, line: u8) -> bool {
         self.board.read(line)

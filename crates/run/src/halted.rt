@@ -6,7 +6,6 @@ ghost use Rattle.cover.specs.Certificates.{certified_net, certified_strands};
 ghost use Rattle.net.specs.Sets.{has};
 ghost use Rattle.run.specs.Firing.{agrees, station_outcome};
 ghost use Rattle.run.specs.Runs.{halted_lit};
-ghost use Rattle.std.proofs.Common.{rules};
 
 use crate::places::station_on;
 use crate::runs::{Going, Halted};
@@ -62,7 +61,7 @@ impl<B: Board> Halted<B> {
 impl<B: Board> Lines for Halted<B> {
     ghost lit = { halted_lit B.Lines.lit };
 
-    ghost bounded = { Prim.search rules };
+    ghost bounded = { λ run. B.Lines.bounded run.board };
 
     fn read(&self, line: u8) -> bool {
         self.board.read(line)

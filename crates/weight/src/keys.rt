@@ -1,8 +1,7 @@
 // Sets of trapped keys as weights: a key that is in both of two sets is in neither when they are added.
 ghost use Rattle.std.specs.Prelude.{◌≡◌};
-ghost use Rattle.std.proofs.Common.{rules};
 ghost use Rattle.weight.specs.Kinds.{keys, itself};
-ghost use Rattle.weight.specs.KeySets.{keys_monoid, keys_inverts};
+ghost use Rattle.weight.specs.KeySets.{keys_monoid, keys_inverts, keys_exact};
 
 use crate::weight::Weight;
 
@@ -39,7 +38,7 @@ impl Weight for Keys {
 
     ghost inverts = { keys_inverts };
 
-    ghost exact = { Prim.search rules };
+    ghost exact = { keys_exact };
 
     fn zero() -> Keys {
         Self::NEUTRAL

@@ -3,7 +3,7 @@ ghost use Rattle.std.specs.Prelude.{◌≡◌, replicate, None as Never, Ok as D
 ghost use Rattle.net.specs.Sets.{exchange};
 ghost use Rattle.board.specs.Wear.{unused, relay_at, relays_on, Switched};
 ghost use Rattle.board.specs.RelaysFit.{relays_on_fits};
-ghost use Rattle.std.proofs.Common.{rules};
+ghost use Rattle.std.proofs.Common.{ap};
 
 use crate::board::Board;
 use crate::lines::Lines;
@@ -69,7 +69,7 @@ impl Board for Relays {
 
     ghost signalled = { λ b _ _ after. after ≡ b };
 
-    ghost quiet = { Prim.search rules };
+    ghost quiet = { λ b channel event after same. ap (λ (r : Self). relays_on r.relays) same };
 
     fn shut(&self) -> Option<u8>
         ensures never { result ≡ Never }

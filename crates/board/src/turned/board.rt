@@ -4,7 +4,7 @@ ghost use Rattle.net.specs.Sets.{union};
 ghost use Rattle.board.specs.Rules.{Laid, Exchanged};
 ghost use Rattle.board.specs.Turns.{turn, light_below, turned_lit, turned_shut, Signalled};
 ghost use Rattle.std.proofs.lemmas.Nat.{xor_lt};
-ghost use Rattle.std.proofs.Common.{rules};
+ghost use Rattle.board.specs.Quiet.{turned_quiet};
 
 use crate::board::Board;
 use crate::lines::Lines;
@@ -57,7 +57,7 @@ impl<B: Board> Board for Turned<B> {
 
     ghost signalled = { Signalled B.Board.signalled };
 
-    ghost quiet = { Prim.search rules };
+    ghost quiet = { turned_quiet B.Lines.lit B.Board.signalled B.Board.quiet };
 
     fn shut(&self) -> Option<u8> {
         self.below.shut()

@@ -1,7 +1,7 @@
 // The word board: it is never shut and ignores signals.
 ghost use Rattle.std.specs.Prelude.{◌≡◌, None as Never, Ok as Done};
 ghost use Rattle.net.specs.Sets.{exchange};
-ghost use Rattle.std.proofs.Common.{rules};
+ghost use Rattle.std.proofs.Common.{ap};
 
 use crate::board::Board;
 use crate::lines::Lines;
@@ -32,7 +32,7 @@ impl Board for Word {
 
     ghost signalled = { λ w _ _ after. after ≡ w };
 
-    ghost quiet = { Prim.search rules };
+    ghost quiet = { λ w channel event after same. ap (λ (b : Self). b.set) same };
 
     fn shut(&self) -> Option<u8>
         ensures never { result ≡ Never }
