@@ -1,5 +1,5 @@
 -- A cover that is sent along with a drawing.
---   proposed        the strands on the sheet once the sets are proposed one after another, or the first refusal
+--   proposals       the first refusal of the sets, proposed one after another to a sheet with some strands, or none
 --   cover_outcome   the first refusal of the sets, and then of the certificate
 use Rattle.std.specs.Prelude.{ℕ, List, [], ◌∷◌, ◌++◌, Ok}
 use Rattle.refusal.specs.Outcomes.{Outcome, and_then}

@@ -5,10 +5,10 @@
 --   carriers_inverts  some carriers and their inverse are none
 --   carriers_exact    the test of the numbers tells whether two numbers of carriers are equal
 use Rattle.std.specs.Prelude.{◌≡◌, ℕ, ◌^◌, ◌<◌, Bool, ◌==◌, Decides}
-use Rattle.std.proofs.Common.{ap, subst, arith}
+use Rattle.std.proofs.Common.{subst, arith}
 use Rattle.std.proofs.Math.Bridge.{le_prop}
-use Rattle.std.proofs.lemmas.Bool.Decides.{Decides-eqb, Decides-at, Decides-like}
 use Rattle.weight.specs.Additions.{CommutativeMonoid, Inverts}
+use Rattle.weight.specs.Exact.{exact_by}
 use Rattle.weight.specs.Kinds.{carriers, opposite}
 use Rattle.weight.specs.declared.carriers.Carriers.{Carriers}
 
@@ -29,5 +29,4 @@ pub carriers_inverts : Inverts carriers opposite
 carriers_inverts x = same_count _ _ (omega arith)
 
 pub carriers_exact : (x y : Carriers) (r : Bool) → r ≡ (x.count == y.count) → Decides r (x ≡ y)
-carriers_exact x y r told =
-    Decides-like r (same_count x y) (ap (λ (z : Carriers). z.count)) (Decides-at r _ told (Decides-eqb x.count y.count))
+carriers_exact = exact_by (λ (x : Carriers). x.count) same_count

@@ -7,8 +7,8 @@ use Rattle.std.specs.Prelude.{◌≡◌, ℕ, Bool, ◌==◌, Decides}
 use Rattle.std.specs.Int.Bits.{xor_assoc, xor_zero_l, xor_self}
 use Rattle.std.proofs.Common.{ap}
 use Rattle.std.proofs.lemmas.Nat.{xor_comm}
-use Rattle.std.proofs.lemmas.Bool.Decides.{Decides-eqb, Decides-at, Decides-like}
 use Rattle.weight.specs.Additions.{CommutativeMonoid, Inverts}
+use Rattle.weight.specs.Exact.{exact_by}
 use Rattle.weight.specs.Kinds.{keys, itself}
 use Rattle.weight.specs.declared.keys.Keys.{Keys}
 
@@ -26,4 +26,4 @@ pub keys_inverts : Inverts keys itself
 keys_inverts x = ap of (xor_self x.set)
 
 pub keys_exact : (x y : Keys) (r : Bool) → r ≡ (x.set == y.set) → Decides r (x ≡ y)
-keys_exact x y r told = Decides-like r (ap of) (ap (λ (z : Keys). z.set)) (Decides-at r _ told (Decides-eqb x.set y.set))
+keys_exact = exact_by (λ (x : Keys). x.set) (λ x y. ap of)
