@@ -5,7 +5,7 @@ use Rattle.weight.proofs.Sums.{summed_more, summed_none, unit_right}
 use Rattle.weight.proofs.weighing.weigh.Goals as goal
 
 pub loop-line-init : goal.loop-line-init
-loop-line-init g c = c.zero-sum.ensures ∙ sym (summed_none g.W.Weight.addition _)
+loop-line-init g c = c.NEUTRAL-sum.ensures ∙ g.met.W.Weight.neutral_law ∙ sym (summed_none g.W.Weight.addition _)
 
 pub loop-line-preserved : goal.loop-line-preserved
 loop-line-preserved g c =
