@@ -18,13 +18,9 @@ fn entry<W: Weight>(list: &[W], line: u8) -> W
 pub fn weigh<W: Weight, L: Lines>(lines: &L, list: &[W]) -> W
     ensures { result ≡ weight_of W.Weight.addition (L.Lines.lit lines.now) list.now }
 {
-    let mut sum = W::NEUTRAL;
-    for line in 0..64 {
-        if lines.read(line) {
-            sum = sum.add(entry(list, line));
-        }
-    }
-    sum
+    (0..64)
+        .filter(|&line| lines.read(line))
+        .fold(W::NEUTRAL, |sum, line| sum.add(entry(list, line)))
 }
 
 // The sum of the entries that the transition gives, plus the inverse of the sum of those that it takes;
