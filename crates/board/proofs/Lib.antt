@@ -1,4 +1,5 @@
 pub mod Complements
 pub mod Copies
+pub mod Folds
 pub mod Rows
 pub mod Turning

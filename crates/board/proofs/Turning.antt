@@ -8,6 +8,7 @@ use Rattle.net.proofs.Bits.{by_digit, digit_below, has_intersection, has_union, 
 use Rattle.net.proofs.Members.{same_members}
 use Rattle.board.specs.Rules.{Laid, Exchanged}
 use Rattle.board.specs.Turns.{turn, light_below, turned_lit, turned_shut}
+use Rattle.board.specs.declared.shut.Shut.{Shut}
 use Rattle.board.specs.declared.turned.Turned.{Turned}
 
 abbrev differs : Bool → Bool → Bool
@@ -85,7 +86,7 @@ module _ {B : Type 0} where
     pub turned_laid : (set : ℕ) → Laid lit closed (turn set before.set) before.below after.below → Laid (turned_lit lit) (turned_shut closed) set before after
     turned_laid set laid = record { lines = ap₂ turn laid.lines kept ∙ turned_twice set before.set; channel = laid.channel }
 
-    pub turned_exchanged : (d l : ℕ) (r : Result (Unit {0}) ℕ)
+    pub turned_exchanged : (d l : ℕ) (r : Result (Unit {0}) Shut)
         → Exchanged lit closed (union d l) (light_below d l before.set) before.below r after.below
         → Exchanged (turned_lit lit) (turned_shut closed) d l before r after
     turned_exchanged d l (Ok u) (none, laid) = (
@@ -95,4 +96,4 @@ module _ {B : Type 0} where
         channel = laid.channel;
       },
     )
-    turned_exchanged d l (Err channel) (shut, same) = (shut, same_turned after before kept same)
+    turned_exchanged d l (Err shut) (closes, same) = (closes, same_turned after before kept same)

@@ -3,6 +3,7 @@ ghost use Rattle.std.specs.Prelude.{◌≡◌, ℕ, Option as Maybe};
 ghost use Rattle.board.specs.Rules.{Laid, Exchanged};
 
 use crate::lines::Lines;
+use crate::shut::Shut;
 
 pub trait Board: Lines {
     // the shut channel, if any: while there is one, no lines are exchanged
@@ -20,7 +21,7 @@ pub trait Board: Lines {
         ensures { Laid Self.Lines.lit closed set self.old self.new };
 
     // Turns the lines of `dark` off, then those of `light` on; or, where a channel is shut, does nothing and tells the channel.
-    fn exchange(&mut self, dark: u64, light: u64) -> Result<(), u8>
+    fn exchange(&mut self, dark: u64, light: u64) -> Result<(), Shut>
         ensures { Exchanged Self.Lines.lit closed dark light self.old result self.new };
 
     // Brings an event on a channel to the board.

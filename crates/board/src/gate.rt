@@ -6,6 +6,7 @@ ghost use Rattle.board.specs.Quiet.{gate_quiet};
 
 use crate::board::Board;
 use crate::lines::Lines;
+use crate::shut::Shut;
 
 // The state of a gate. It lets exchanges through only when it is Ready.
 #[derive(Clone, Copy, PartialEq, Eq, Debug)]
@@ -93,13 +94,15 @@ impl<B: Board> Board for Gate<B> {
         self.below.lay(set);
     }
 
-    fn exchange(&mut self, dark: u64, light: u64) -> Result<(), u8>
+    fn exchange(&mut self, dark: u64, light: u64) -> Result<(), Shut>
         ensures exchanged { Exchanged (gate_lit B.Lines.lit) (gate_shut B.Board.closed) dark light self.old result self.new }
         ensures kept { SameGuard self.old self.new }
     {
         match self.guard {
             Guard::Ready => self.below.exchange(dark, light),
-            _ => Err(self.channel),
+            _ => Err(Shut {
+                channel: self.channel,
+            }),
         }
     }
 

@@ -6,6 +6,7 @@ mod gate;
 mod lines;
 mod relays;
 mod sets;
+mod shut;
 mod snapshot;
 #[cfg(test)]
 mod tests;
@@ -16,6 +17,7 @@ pub use board::Board;
 pub use gate::{Gate, Guard};
 pub use lines::Lines;
 pub use relays::Relays;
+pub use shut::Shut;
 pub use snapshot::Snapshot;
 pub use turned::Turned;
 pub use word::Word;

@@ -3,6 +3,7 @@ use crate::board::Board;
 use crate::gate::{Gate, Guard};
 use crate::relays::Relays;
 use crate::relays::relay::Relay;
+use crate::shut::Shut;
 use crate::snapshot::Snapshot;
 use crate::turned::Turned;
 use crate::word::Word;
@@ -84,7 +85,7 @@ fn stack_of_three(rt: HostRuntime) {
     assert_eq!(rt; stack.shut(), Some(2));
     assert_eq!(rt; shown(&mut stack), LAID);
     stack.signal(1, 1);
-    assert_eq!(rt; stack.exchange(1, 2), Err(1));
+    assert_eq!(rt; stack.exchange(1, 2), Err(Shut { channel: 1 }));
     stack.signal(2, 2);
     stack.signal(2, 3);
     assert_eq!(rt; stack.below().below().guard(), Guard::Ready);

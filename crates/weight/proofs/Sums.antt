@@ -1,5 +1,6 @@
 -- Sums: the start, a step, sums of equal terms and sums of sums.
-use Rattle.std.proofs.Common.{◌≡◌, ℕ, zero, suc, ◌+◌, ◌<◌, sym, refl, ap, ◌∙◌, ap₂, add-one, arith}
+use Rattle.std.specs.List.{fold, filter, range_with_len}
+use Rattle.std.proofs.Common.{Bool, true, false, cond, ◌∷◌, List, ◌≡◌, ℕ, zero, suc, ◌+◌, ◌<◌, sym, refl, ap, ◌∙◌, ap₂, add-one, arith}
 use Rattle.weight.specs.Additions.{Addition, CommutativeMonoid}
 use Rattle.weight.specs.Weights.{summed}
 
@@ -33,3 +34,23 @@ module _ {W : Type 0} (a : Addition W) where
     unfolding summed
     summed_plus zero f g = sym (laws.unit a.neutral)
     summed_plus (suc k) f g = ap (λ x. a.plus x (a.plus (f k) (g k))) (summed_plus k f g) ∙ crosswise (summed a k f) (summed a k g) (f k) (g k)
+
+    -- one more, where it passes
+    plus_where : (b : Bool) (x y : W) → cond b (a.plus x y) x ≡ a.plus x (cond b y a.neutral)
+    plus_where true x y = refl
+    plus_where false x y = sym (unit_right x)
+
+    module _ (test : ℕ → Bool) (f : ℕ → W) where
+      fold_where : (b : Bool) (sum : W) (m : ℕ) (ms : List ℕ) → fold (λ x n. a.plus x (f n)) sum (cond b (m ∷ ms) ms) ≡ fold (λ x n. a.plus x (f n)) (cond b (a.plus sum (f m)) sum) ms
+      fold_where true sum m ms = refl
+      fold_where false sum m ms = refl
+
+      -- adding up those of k numbers from m on that pass the test, on top of the sum up to m
+      pub summed_where : (k m : ℕ) (sum : W) → sum ≡ summed a m (λ n. cond (test n) (f n) a.neutral)
+          → fold (λ x n. a.plus x (f n)) sum (filter test (range_with_len m k)) ≡ summed a (m + k) (λ n. cond (test n) (f n) a.neutral)
+      summed_where zero m sum so = so ∙ ap (λ j. summed a j (λ n. cond (test n) (f n) a.neutral)) (omega arith)
+      summed_where (suc k) m sum so =
+          let passed : ℕ → W = λ n. cond (test n) (f n) a.neutral in
+          fold_where (test m) sum m (filter test (range_with_len (m + 1) k))
+          ∙ summed_where k (m + 1) (cond (test m) (a.plus sum (f m)) sum) (plus_where (test m) sum (f m) ∙ ap (λ x. a.plus x (passed m)) so ∙ summed_more m passed)
+          ∙ ap (λ j. summed a j passed) (omega arith)

@@ -1,5 +1,5 @@
 // Sets of trapped keys as weights: a key that is in both of two sets is in neither when they are added.
-ghost use Rattle.std.specs.Prelude.{◌≡◌};
+ghost use Rattle.std.specs.Prelude.{◌≡◌, refl};
 ghost use Rattle.weight.specs.Kinds.{keys, itself};
 ghost use Rattle.weight.specs.KeySets.{keys_monoid, keys_inverts, keys_exact};
 
@@ -30,19 +30,19 @@ impl Keys {
 impl Weight for Keys {
     const NEUTRAL: Keys = Keys { set: 0 };
 
+    ghost NEUTRAL = { keys.neutral };
+
     ghost addition = { keys };
 
     ghost minus = { itself };
+
+    ghost neutral_law = { refl };
 
     ghost monoid = { keys_monoid };
 
     ghost inverts = { keys_inverts };
 
     ghost exact = { keys_exact };
-
-    fn zero() -> Keys {
-        Self::NEUTRAL
-    }
 
     fn add(self, other: Keys) -> Keys {
         Keys {

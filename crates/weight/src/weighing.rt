@@ -11,23 +11,16 @@ use net::Net;
 fn entry<W: Weight>(list: &[W], line: u8) -> W
     ensures { result ≡ slice_index_or list.now line W.Weight.addition.neutral }
 {
-    match list.get(line as usize) {
-        Some(weight) => *weight,
-        None => W::zero(),
-    }
+    list.get(line as usize).copied().unwrap_or(W::NEUTRAL)
 }
 
 // The sum of entry n of the list for every lit line n.
 pub fn weigh<W: Weight, L: Lines>(lines: &L, list: &[W]) -> W
     ensures { result ≡ weight_of W.Weight.addition (L.Lines.lit lines.now) list.now }
 {
-    let mut sum = W::zero();
-    for line in 0..64 {
-        if lines.read(line) {
-            sum = sum.add(entry(list, line));
-        }
-    }
-    sum
+    (0..64)
+        .filter(|&line| lines.read(line))
+        .fold(W::NEUTRAL, |sum, line| sum.add(entry(list, line)))
 }
 
 // The sum of the entries that the transition gives, plus the inverse of the sum of those that it takes;
@@ -36,7 +29,7 @@ pub fn drift<W: Weight>(net: &Net, transition: u8, list: &[W]) -> W
     ensures { result ≡ drift_of W.Weight.addition W.Weight.minus (drawn net.now) list.now transition }
 {
     if transition >= net.transitions() {
-        return W::zero();
+        return W::NEUTRAL;
     }
     let given = weigh(&Snapshot::new(net.gives(transition)), list);
     let taken = weigh(&Snapshot::new(net.takes(transition)), list);
@@ -47,17 +40,12 @@ pub fn drift<W: Weight>(net: &Net, transition: u8, list: &[W]) -> W
 fn is_neutral<W: Weight>(weight: W) -> bool
     ensures { Decides result (weight ≡ W.Weight.addition.neutral) }
 {
-    weight == W::zero()
+    weight == W::NEUTRAL
 }
 
 // The lowest transition whose drift is not neutral, or none.
 pub fn balance<W: Weight>(net: &Net, list: &[W]) -> Option<u8>
     ensures { Balances W.Weight.addition W.Weight.minus (drawn net.now) list.now result }
 {
-    for transition in 0..net.transitions() {
-        if !is_neutral(drift(net, transition, list)) {
-            return Some(transition);
-        }
-    }
-    None
+    (0..net.transitions()).find(|&transition| !is_neutral(drift(net, transition, list)))
 }

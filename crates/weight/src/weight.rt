@@ -7,15 +7,13 @@ pub trait Weight: Copy + PartialEq {
     // the neutral weight
     const NEUTRAL: Self;
 
+    ghost NEUTRAL: { Self };
+
     // the neutral weight and the addition
     ghost addition: { Addition Self };
 
     // the inverse
     ghost minus: { Self → Self };
-
-    // The neutral weight, which is `NEUTRAL` for each kind; generic code takes it from here, where a contract says what it is.
-    fn zero() -> Self
-        ensures { result ≡ addition.neutral };
 
     // The sum.
     fn add(self, other: Self) -> Self
@@ -24,6 +22,9 @@ pub trait Weight: Copy + PartialEq {
     // The weight that adds up with this one to the neutral one.
     fn inverse(self) -> Self
         ensures { result ≡ minus self };
+
+    // the constant is the neutral weight of the addition
+    ghost neutral_law: { NEUTRAL ≡ addition.neutral };
 
     ghost monoid: { CommutativeMonoid addition };
 

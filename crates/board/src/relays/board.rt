@@ -9,8 +9,10 @@ use crate::board::Board;
 use crate::lines::Lines;
 use crate::relays::Relays;
 use crate::relays::relay::Relay;
-use crate::sets::{exchanged, has_line};
+use crate::sets::exchanged;
+use crate::shut::Shut;
 use crate::snapshot::Snapshot;
+use net::has;
 
 impl Relays {
     // A relay board with every relay off and no wear.
@@ -33,11 +35,7 @@ impl Relays {
     fn relay(&self, n: u8) -> Relay
         ensures { result ≡ relay_at self.now.relays n }
     {
-        if n < 64 {
-            self.relays[n as usize]
-        } else {
-            Relay::new()
-        }
+        self.relays.get(n as usize).copied().unwrap_or(Relay::new())
     }
 
     // Sets each relay on where the set has it, and else off.
@@ -45,9 +43,8 @@ impl Relays {
         ensures lines { relays_on self.new.relays ≡ set }
         ensures switched { Switched set self.old.relays self.new.relays }
     {
-        for n in 0..64 {
-            let relay = self.relays[n as usize];
-            self.relays[n as usize] = relay.switch(has_line(set, n));
+        for (n, relay) in self.relays.iter_mut().enumerate() {
+            *relay = relay.switch(has(set, n as u8));
         }
     }
 }
@@ -84,7 +81,7 @@ impl Board for Relays {
         self.switch(set);
     }
 
-    fn exchange(&mut self, dark: u64, light: u64) -> Result<(), u8>
+    fn exchange(&mut self, dark: u64, light: u64) -> Result<(), Shut>
         ensures done { result ≡ Done tt }
         ensures lines { relays_on self.new.relays ≡ exchange (relays_on self.old.relays) dark light }
         ensures switched { Switched (exchange (relays_on self.old.relays) dark light) self.old.relays self.new.relays }

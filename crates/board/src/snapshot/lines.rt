@@ -2,8 +2,8 @@
 ghost use Rattle.std.specs.Prelude.{◌≡◌};
 
 use crate::lines::Lines;
-use crate::sets::has_line;
 use crate::snapshot::Snapshot;
+use net::has;
 
 impl Snapshot {
     // A snapshot of this set.
@@ -17,13 +17,10 @@ impl Snapshot {
     pub fn of<L: Lines>(lines: &L) -> Snapshot
         ensures { result.set ≡ L.Lines.lit lines.now }
     {
-        let mut copy = 0;
-        for line in 0..64 {
-            if lines.read(line) {
-                copy |= 1 << line;
-            }
-        }
-        Snapshot { set: copy }
+        let set = (0..64)
+            .filter(|&line| lines.read(line))
+            .fold(0, |set, line| set | 1 << line);
+        Snapshot::new(set)
     }
 
     // The copied set.
@@ -40,6 +37,6 @@ impl Lines for Snapshot {
     ghost bounded = { λ s. s.fits };
 
     fn read(&self, line: u8) -> bool {
-        has_line(self.set, line)
+        has(self.set, line)
     }
 }

@@ -8,8 +8,9 @@ ghost use Rattle.board.specs.Quiet.{turned_quiet};
 
 use crate::board::Board;
 use crate::lines::Lines;
-use crate::sets::has_line;
+use crate::shut::Shut;
 use crate::turned::Turned;
+use net::has;
 
 impl<B> Turned<B> {
     // A board on which the lines of the set are turned over, over a board.
@@ -48,7 +49,7 @@ impl<B: Lines> Lines for Turned<B> {
     ghost bounded = { λ b. xor_lt 64 _ _ (B.Lines.bounded b.below) b.fits };
 
     fn read(&self, line: u8) -> bool {
-        self.below.read(line) != has_line(self.set, line)
+        self.below.read(line) != has(self.set, line)
     }
 }
 
@@ -71,7 +72,7 @@ impl<B: Board> Board for Turned<B> {
         self.below.lay(below);
     }
 
-    fn exchange(&mut self, dark: u64, light: u64) -> Result<(), u8>
+    fn exchange(&mut self, dark: u64, light: u64) -> Result<(), Shut>
         ensures below { Exchanged B.Lines.lit B.Board.closed (union dark light) (light_below dark light self.old.set) self.old.below result self.new.below }
         ensures kept { self.new.set ≡ self.old.set }
     {

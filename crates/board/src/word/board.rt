@@ -5,8 +5,10 @@ ghost use Rattle.std.proofs.Common.{ap};
 
 use crate::board::Board;
 use crate::lines::Lines;
-use crate::sets::{exchanged, has_line};
+use crate::sets::exchanged;
+use crate::shut::Shut;
 use crate::word::Word;
+use net::has;
 
 impl Word {
     // A word board with no line lit.
@@ -23,7 +25,7 @@ impl Lines for Word {
     ghost bounded = { λ w. w.fits };
 
     fn read(&self, line: u8) -> bool {
-        has_line(self.set, line)
+        has(self.set, line)
     }
 }
 
@@ -46,7 +48,7 @@ impl Board for Word {
         self.set = set;
     }
 
-    fn exchange(&mut self, dark: u64, light: u64) -> Result<(), u8>
+    fn exchange(&mut self, dark: u64, light: u64) -> Result<(), Shut>
         ensures done { result ≡ Done tt }
         ensures word { self.new.set ≡ exchange self.old.set dark light }
     {

@@ -1,5 +1,5 @@
 // Carriers as weights: sums wrap.
-ghost use Rattle.std.specs.Prelude.{◌≡◌, ◌+◌, ◌-◌, ◌%◌, ◌^◌};
+ghost use Rattle.std.specs.Prelude.{◌≡◌, refl, ◌+◌, ◌-◌, ◌%◌, ◌^◌};
 ghost use Rattle.weight.specs.Kinds.{carriers, opposite};
 ghost use Rattle.weight.specs.Counts.{carriers_monoid, carriers_inverts, carriers_exact};
 
@@ -25,21 +25,19 @@ impl Carriers {
 impl Weight for Carriers {
     const NEUTRAL: Carriers = Carriers { count: 0 };
 
+    ghost NEUTRAL = { carriers.neutral };
+
     ghost addition = { carriers };
 
     ghost minus = { opposite };
+
+    ghost neutral_law = { refl };
 
     ghost monoid = { carriers_monoid };
 
     ghost inverts = { carriers_inverts };
 
     ghost exact = { carriers_exact };
-
-    fn zero() -> Carriers
-        ensures count { result.count ≡ 0 }
-    {
-        Self::NEUTRAL
-    }
 
     fn add(self, other: Carriers) -> Carriers
         ensures count { result.count ≡ (self.count + other.count) % 2 ^ 32 }

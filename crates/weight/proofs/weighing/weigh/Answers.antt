@@ -1,23 +1,17 @@
-use Rattle.std.proofs.Common.{cond, get_or, sym, ap, ◌∙◌, ap₂}
-use Rattle.std.proofs.lemmas.Bool.{cond-true, cond-false}
+use Rattle.std.proofs.Common.{rules, ℕ, get_or, sym, refl, ◌∙◌}
+use borrow.Author.Tests.{tests}
+use Rattle.std.proofs.lemmas.Iterator.{YieldsList-from_range}
+use Rattle.std.proofs.lemmas.Iterator.Consumers.{YieldsList-at, YieldsList-from_filter, fold_from_yields_List}
 use Rattle.net.specs.Sets.{has}
-use Rattle.weight.proofs.Sums.{summed_more, summed_none, unit_right}
+use Rattle.weight.proofs.Sums.{summed_none, summed_where}
 use Rattle.weight.proofs.weighing.weigh.Goals as goal
 
-pub loop-line-init : goal.loop-line-init
-loop-line-init g c = c.zero-sum.ensures ∙ sym (summed_none g.W.Weight.addition _)
-
-pub loop-line-preserved : goal.loop-line-preserved
-loop-line-preserved g c =
+pub returns : goal.returns
+returns g c =
     let a = g.W.Weight.addition in
     let lit = g.L.Lines.lit c.args.lines.now in
-    let n = c.loop-line.line in
-    let here = get_or c.args.list.now n a.neutral in
-    let more = summed_more a n (λ k. cond (has lit k) (get_or c.args.list.now k a.neutral) a.neutral) in
-    elim c.if-read.branch [
-      | goal.then-read w ↦ w.sum-is ∙ w.add-sum.ensures
-          ∙ ap₂ a.plus c.loop-line.invariant (w.entry.ensures ∙ sym (cond-true (has lit n) here a.neutral (sym c.read.ensures ∙ w.if-read.true))) ∙ more
-      | goal.else-read w ↦ w.sum-is ∙ c.loop-line.invariant
-          ∙ sym (unit_right a g.met.W.Weight.monoid _)
-          ∙ ap (a.plus _) (sym (cond-false (has lit n) here a.neutral (sym c.read.ensures ∙ w.if-read.false))) ∙ more
-    ]
+    let entry : ℕ → g.row.W.Denot = λ n. get_or c.args.list.now n a.neutral in
+    fold_from_yields_List _ (λ x n. a.plus x (entry n)) c.NEUTRAL.result c.fold.result c.fold.ensures.ran
+    (YieldsList-from_filter _ (has lit) (YieldsList-at c.filter.ensures.source (YieldsList-from_range 0 64 64 refl refl)) c.filter.ensures.closure (λ x r q k. search (rules, tests)))
+    (λ x n r q k. search (rules, tests))
+    ∙ summed_where a g.met.W.Weight.monoid (has lit) entry 64 0 c.NEUTRAL.result (c.NEUTRAL.ensures ∙ g.met.W.Weight.neutral_law ∙ sym (summed_none a _))

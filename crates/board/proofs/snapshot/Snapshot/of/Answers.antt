@@ -1,22 +1,16 @@
-use Rattle.std.proofs.Common.{◌≡◌, ◌+◌, sym, ◌∙◌, subst, arith}
-use Rattle.board.proofs.Copies.{Copied, copied_none, copied_unlit, copied_lit, copied_all}
+use Rattle.std.proofs.Common.{rules, refl, ◌∙◌, arith}
+use borrow.Author.Tests.{tests}
+use Rattle.std.proofs.lemmas.Iterator.{YieldsList-from_range}
+use Rattle.std.proofs.lemmas.Iterator.Consumers.{YieldsList-at, YieldsList-from_filter, fold_from_yields_List}
+use Rattle.net.specs.Sets.{has}
+use Rattle.board.proofs.Copies.{with_line, copied_none, copied_more, copied_all}
 use Rattle.board.proofs.snapshot.Snapshot.of.Goals as goal
-
-pub loop-line-init : goal.loop-line-init
-loop-line-init g c = copied_none _
-
-pub loop-line-preserved : goal.loop-line-preserved
-loop-line-preserved g c =
-    let lit = g.L.Lines.lit c.args.lines.now in
-    let n = c.loop-line.line in
-    let so = c.loop-line.invariant in
-    elim c.if-read.branch [
-      | goal.then-read w ↦ subst (Copied lit (n + 1)) (sym w.copy-is) (copied_lit lit n c.loop-line.copy so (omega arith) (sym c.read.ensures ∙ w.if-read.true))
-      | goal.else-read w ↦ subst (Copied lit (n + 1)) (sym w.copy-is) (copied_unlit lit n c.loop-line.copy so (sym c.read.ensures ∙ w.if-read.false))
-    ]
 
 pub returns : goal.returns
 returns g c =
     let lit = g.L.Lines.lit c.args.lines.now in
-    let end : c.loop-line.line ≡ 64 = omega arith in
-    copied_all lit c.loop-line.copy (g.met.L.Lines.bounded c.args.lines.now) (subst (λ n. Copied lit n c.loop-line.copy) end c.loop-line.invariant)
+    c.new.ensures
+    ∙ fold_from_yields_List _ with_line 0 c.fold-set.result c.fold-set.ensures.ran
+    (YieldsList-from_filter _ (has lit) (YieldsList-at c.filter.ensures.source (YieldsList-from_range 0 64 64 refl refl)) c.filter.ensures.closure (λ x r q k. search (rules, tests)))
+    (λ x n r q k. search (rules, tests))
+    ∙ copied_all lit _ (g.met.L.Lines.bounded c.args.lines.now) (copied_more lit 64 0 0 (omega arith) (copied_none lit))

@@ -2,9 +2,6 @@ use Rattle.std.proofs.Common.{arith}
 use Rattle.weight.specs.Counts.{same_count}
 use Rattle.weight.proofs.carriers.weight.CarriersWeight.TheImpl.Goals as goal
 
-pub zero-tells : goal.zero-tells
-zero-tells c = same_count _ _ (omega arith)
-
 pub add-tells : goal.add-tells
 add-tells c = same_count _ _ (omega arith)
 
