@@ -1,12 +1,14 @@
 // What a frame says, with its fields decoded.
-ghost use Rattle.std.specs.Prelude.{◌≡◌, ◌+◌, ◌*◌, ◌<◌, ◌≤◌, length, slice_index};
+ghost use Rattle.std.specs.Prelude.{◌≡◌, ◌<◌, ◌≤◌, length, slice_index};
 ghost use Rattle.frame.specs.Digits.{number_of, bytes_of};
 ghost use Rattle.frame.specs.Frames.{kind_of, digits_of, place_of, payload_of};
 ghost use Rattle.frame.specs.Requests.{set_at, request_of};
+ghost use Rattle.frame.specs.Tags.{tag_byte};
 
 use crate::digits::digit;
 use crate::frames::{Frame, Payload};
 use crate::kinds::Kind;
+use crate::tags::Tag;
 
 #[derive(Clone, Copy)]
 pub enum Request {
@@ -77,30 +79,29 @@ impl Payload<'_> {
 }
 
 impl<'a> Frame<'a> {
+    fn tag(self) -> Tag
+        ensures { tag_byte result ≡ kind_of self.entry }
+    {
+        match self {
+            Frame::Draw(_) => Tag::Asks(Kind::Draw),
+            Frame::Arcs(_) => Tag::Asks(Kind::Arcs),
+            Frame::Propose(_) => Tag::Asks(Kind::Propose),
+            Frame::Search(_) => Tag::Asks(Kind::Search),
+            Frame::Certify(_) => Tag::Asks(Kind::Certify),
+            Frame::Fire(_) => Tag::Asks(Kind::Fire),
+            Frame::Signal(_) => Tag::Asks(Kind::Signal),
+            Frame::Halt(_) => Tag::Asks(Kind::Halt),
+            Frame::Resume(_) => Tag::Asks(Kind::Resume),
+            Frame::Home(_) => Tag::Asks(Kind::Home),
+            Frame::Answer { to, .. } => Tag::Answers(to),
+        }
+    }
+
     // The kind byte of the line.
     pub fn kind(self) -> u8
         ensures { result ≡ kind_of self.entry }
     {
-        match self {
-            Frame::Draw(_) => 1,
-            Frame::Arcs(_) => 2,
-            Frame::Propose(_) => 3,
-            Frame::Search(_) => 4,
-            Frame::Certify(_) => 5,
-            Frame::Fire(_) => 6,
-            Frame::Signal(_) => 7,
-            Frame::Halt(_) => 8,
-            Frame::Resume(_) => 9,
-            Frame::Home(_) => 10,
-            Frame::Answer {
-                to: None,
-                payload: _,
-            } => 128,
-            Frame::Answer {
-                to: Some(kind),
-                payload: _,
-            } => 128 + kind.byte(),
-        }
+        u8::from(self.tag())
     }
 
     fn payload(self) -> Payload<'a>
@@ -118,7 +119,7 @@ impl<'a> Frame<'a> {
             Frame::Halt(payload) => payload,
             Frame::Resume(payload) => payload,
             Frame::Home(payload) => payload,
-            Frame::Answer { to: _, payload } => payload,
+            Frame::Answer { payload, .. } => payload,
         }
     }
 
