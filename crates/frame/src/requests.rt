@@ -9,8 +9,9 @@ use crate::digits::digit;
 use crate::frames::{Frame, Payload};
 use crate::kinds::Kind;
 use crate::tags::Tag;
+use std::array;
 
-#[derive(Clone, Copy)]
+#[derive(Clone, Copy, PartialEq, Eq, Debug)]
 pub enum Request {
     Draw {
         places: u8,
@@ -59,10 +60,10 @@ impl Payload<'_> {
         requires { at < 32 }
         ensures { result ≡ slice_index (bytes_of self.entry.digits.now) at }
     {
-        if self.digits.len() < 2 * at + 2 {
+        let Some(pair) = self.digits.get(2 * at..2 * at + 2) else {
             return 0;
-        }
-        number(self.digits[2 * at]) * 16 + number(self.digits[2 * at + 1])
+        };
+        number(pair[0]) * 16 + number(pair[1])
     }
 
     // The set whose 8 bytes begin at `at`, highest first.
@@ -70,11 +71,8 @@ impl Payload<'_> {
         requires { at ≤ 9 }
         ensures { result ≡ set_at (bytes_of self.entry.digits.now) at }
     {
-        let mut set = 0u64;
-        for i in 0..8 {
-            set = set * 256 + u64::from(self.byte(at + i));
-        }
-        set
+        let bytes = array::from_fn(|i| self.byte(at + i));
+        u64::from_be_bytes(bytes)
     }
 }
 
