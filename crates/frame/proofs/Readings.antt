@@ -1,6 +1,6 @@
 -- The faults of a line, one after another.
 use Rattle.std.proofs.Common.{◌≡◌, ℕ, ◌+◌, ◌-◌, ◌*◌, ◌/◌, ◌%◌, ◌≤◌, Bool, true, not, ◌||◌, eqb, ltb, List, [], ◌∷◌, length, get_or, take, drop, Ok, Err, sum, Result, sym, refl, ap, ◌∙◌, ap₂, arith}
-use Rattle.std.proofs.lemmas.List.{take_rest, length-drop, length-take-le}
+use Rattle.std.proofs.lemmas.List.{length-drop, length-take-le}
 use Rattle.std.proofs.lemmas.Bool.{ne_eqb, eq-eqb, eqb-false, le-ltb, not-false}
 use Rattle.refusal.specs.declared.Refusal.{Refusal}
 use Rattle.refusal.specs.declared.Refusal.TheVariants.{Foreign, OddOrShort, WrongCheck}
@@ -52,12 +52,6 @@ sum_passes ds none =
     let (even, last) = accepted_past_if (eqb (length ds % 2) 1) OddOrShort (Ok tt) later in
     let ne : length ds % 2 ≡ 1 → ⊥ = eqb-false _ 1 even in
     (not-false (all_digits ds) digits, omega arith)
-
--- the payload lies between two digits and two digits
-pub middle : (ds : List ℕ) → take (length (take (length ds - 2) (drop 2 ds)) - 2) (take (length ds - 2) (drop 2 ds)) ≡ take (length ds - 4) (drop 2 ds)
-middle ds =
-    let shorter : length (drop 2 ds) - 2 ≡ length ds - 4 = omega (arith, length-drop 2 ds) in
-    ap (λ l. take (length l - 2) l) (take_rest ds 2) ∙ ap (λ n. take n (drop 2 ds)) shorter
 
 -- what a kind and a payload are taken for is what the digits are read as
 pub reads_digits : (ds payload : List ℕ) (place high low : ℕ) (r : Result Frame Refusal) → Paired ds → sum (bytes_of ds) % 256 ≡ 0 → Front ds high low → payload ≡ take (length ds - 4) (drop 2 ds)

@@ -90,10 +90,7 @@ pub fn read<'a>(line: &'a [u8], place: usize) -> Result<Frame<'a>, Refusal>
 {
     let digits = digits_in(line);
     let sum = sum_of(digits)?;
-    let [high, low, rest @ ..] = digits else {
-        return Err(Refusal::OddOrShort);
-    };
-    let [payload @ .., _, _] = rest else {
+    let [high, low, payload @ .., _, _] = digits else {
         return Err(Refusal::OddOrShort);
     };
     if sum != 0 {

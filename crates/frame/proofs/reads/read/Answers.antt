@@ -1,10 +1,10 @@
-use Rattle.std.proofs.Common.{◌≡◌, ◌≤◌, length, get_or, Err, sym, ◌∙◌, subst, arith, rules}
+use Rattle.std.proofs.Common.{◌≡◌, ◌-◌, ◌≤◌, length, get_or, take, drop, Err, sym, ap, ◌∙◌, subst, arith, rules}
 use Rattle.refusal.specs.declared.Refusal.TheVariants.{WrongCheck}
 use Rattle.frame.specs.Lines.{check_digits}
 use Rattle.frame.specs.Frames.{DigitsRead, Reads}
 use Rattle.frame.proofs.Hex.{Front, digit_small}
 use Rattle.frame.proofs.Again.{result_writes}
-use Rattle.frame.proofs.Readings.{sum_passes, wrong_check, middle, reads_digits}
+use Rattle.frame.proofs.Readings.{sum_passes, wrong_check, reads_digits}
 use Rattle.frame.proofs.reads.read.Goals as goal
 
 pub returns-then-sum-ne0 : goal.returns-then-sum-ne0
@@ -38,7 +38,8 @@ returns c =
     let (digits, even) = sum_passes ds none in
     let long : 4 ≤ length ds = search rules in
     let front : Front ds c.in-Some.high c.in-Some-digit.low = (omega arith, sym c.digit.ensures ∙ c.in-Some.is, sym c.digit-2.ensures ∙ c.in-Some-digit.is) in
+    let less : length ds - 2 - 2 ≡ length ds - 4 = omega arith in
     let reading : Reads c.args.line.now c.args.place c.frame_of.result =
     subst (λ l. DigitsRead l c.args.place c.frame_of.result) c.digits_in-digits.ensures
-    (reads_digits ds _ c.args.place c.in-Some.high c.in-Some-digit.low c.frame_of.result (digits, even, long) (sym is ∙ c.if-sum-ne0.false) front (middle ds) c.frame_of.ensures) in
+    (reads_digits ds _ c.args.place c.in-Some.high c.in-Some-digit.low c.frame_of.result (digits, even, long) (sym is ∙ c.if-sum-ne0.false) front (ap (λ n. take n (drop 2 ds)) less) c.frame_of.ensures) in
     record { reads = reading; writes_again = result_writes c.args.line.now c.args.place c.frame_of.result reading }
