@@ -7,7 +7,7 @@ ghost use Rattle.frame.specs.Lines.{digits_in, line_of, check_kind};
 ghost use Rattle.frame.specs.Frames.{kind_of, digits_of, place_of, payload_of, Reads};
 ghost use Rattle.frame.specs.Tags.{tag_byte};
 
-use crate::digits::digit;
+use crate::digits::{byte, digit};
 use crate::frames::{Frame, Payload};
 use crate::kinds::Kind;
 use crate::tags::Tag;
@@ -30,21 +30,15 @@ fn sum_of(digits: &[u8]) -> Result<u8, Refusal>
     let mut sum = 0u8;
     let mut rest = digits;
     while let [high, low, more @ ..] = rest {
-        let Some(high) = digit(*high) else {
-            return Err(Refusal::Foreign);
-        };
-        let Some(low) = digit(*low) else {
-            return Err(Refusal::Foreign);
-        };
+        let high = digit(*high)?;
+        let low = digit(*low)?;
         sum = sum.wrapping_add(high * 16 + low);
         rest = more;
     }
     let [last, ..] = rest else {
         return Ok(sum);
     };
-    let Some(_) = digit(*last) else {
-        return Err(Refusal::Foreign);
-    };
+    digit(*last)?;
     Err(Refusal::OddOrShort)
 }
 
@@ -96,11 +90,5 @@ pub fn read<'a>(line: &'a [u8], place: usize) -> Result<Frame<'a>, Refusal>
     if sum != 0 {
         return Err(Refusal::WrongCheck);
     }
-    let Some(high) = digit(*high) else {
-        return Err(Refusal::Foreign);
-    };
-    let Some(low) = digit(*low) else {
-        return Err(Refusal::Foreign);
-    };
-    frame_of(high * 16 + low, payload, place)
+    frame_of(byte(*high, *low), payload, place)
 }

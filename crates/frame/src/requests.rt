@@ -1,11 +1,11 @@
 // What a frame says, with its fields decoded.
 ghost use Rattle.std.specs.Prelude.{◌≡◌, ◌<◌, ◌≤◌, length, slice_index};
-ghost use Rattle.frame.specs.Digits.{number_of, bytes_of};
+ghost use Rattle.frame.specs.Digits.{bytes_of};
 ghost use Rattle.frame.specs.Frames.{kind_of, digits_of, place_of, payload_of};
 ghost use Rattle.frame.specs.Requests.{set_at, request_of};
 ghost use Rattle.frame.specs.Tags.{tag_byte};
 
-use crate::digits::digit;
+use crate::digits::byte;
 use crate::frames::{Frame, Payload};
 use crate::kinds::Kind;
 use crate::tags::Tag;
@@ -46,14 +46,6 @@ pub enum Request {
     },
 }
 
-// The number of a digit.
-fn number(c: u8) -> u8
-    ensures value { result ≡ number_of c }
-    ensures bound { result < 16 }
-{
-    digit(c).unwrap_or(0)
-}
-
 impl Payload<'_> {
     // The byte at `at`; 0 where there is none, as never for a field of the payload's kind.
     fn byte(self, at: usize) -> u8
@@ -63,7 +55,7 @@ impl Payload<'_> {
         let Some(pair) = self.digits.get(2 * at..2 * at + 2) else {
             return 0;
         };
-        number(pair[0]) * 16 + number(pair[1])
+        byte(pair[0], pair[1])
     }
 
     // The set whose 8 bytes begin at `at`, highest first.

@@ -1,8 +1,8 @@
-use Rattle.std.proofs.Common.{◌≡◌, ◌-◌, ◌≤◌, length, get_or, take, drop, Err, sym, ap, ◌∙◌, subst, arith, rules}
+use Rattle.std.proofs.Common.{◌≡◌, ◌-◌, ◌≤◌, length, take, drop, Err, sym, ap, ◌∙◌, subst, arith, rules}
 use Rattle.refusal.specs.declared.Refusal.TheVariants.{WrongCheck}
 use Rattle.frame.specs.Lines.{check_digits}
 use Rattle.frame.specs.Frames.{DigitsRead, Reads}
-use Rattle.frame.proofs.Hex.{Front, digit_small}
+use Rattle.frame.proofs.Fields.{byte_at}
 use Rattle.frame.proofs.Again.{result_writes}
 use Rattle.frame.proofs.Readings.{sum_passes, wrong_check, reads_digits}
 use Rattle.frame.proofs.reads.read.Goals as goal
@@ -18,28 +18,15 @@ returns-then-sum-ne0 c =
       writes_again = tt;
     }
 
-pub overflow_mul-high : goal.overflow_mul-high
-overflow_mul-high c =
-    let ds = c.digits_in-digits.result.now in
-    let high = digit_small (get_or ds 0 0) c.in-Some.high (sym c.digit.ensures ∙ c.in-Some.is) in
-    omega arith
-
-pub overflow_add-high : goal.overflow_add-high
-overflow_add-high c =
-    let ds = c.digits_in-digits.result.now in
-    let high = digit_small (get_or ds 0 0) c.in-Some.high (sym c.digit.ensures ∙ c.in-Some.is) in
-    let low = digit_small (get_or ds 1 0) c.in-Some-digit.low (sym c.digit-2.ensures ∙ c.in-Some-digit.is) in
-    omega arith
-
 pub returns : goal.returns
 returns c =
     let ds = c.digits_in-digits.result.now in
     let (none, is) = c.in_ok-sum.ensures in
     let (digits, even) = sum_passes ds none in
     let long : 4 ≤ length ds = search rules in
-    let front : Front ds c.in-Some.high c.in-Some-digit.low = (omega arith, sym c.digit.ensures ∙ c.in-Some.is, sym c.digit-2.ensures ∙ c.in-Some-digit.is) in
+    let kind = c.byte.ensures ∙ sym (byte_at ds 0 (omega arith)) in
     let less : length ds - 2 - 2 ≡ length ds - 4 = omega arith in
     let reading : Reads c.args.line.now c.args.place c.frame_of.result =
     subst (λ l. DigitsRead l c.args.place c.frame_of.result) c.digits_in-digits.ensures
-    (reads_digits ds _ c.args.place c.in-Some.high c.in-Some-digit.low c.frame_of.result (digits, even, long) (sym is ∙ c.if-sum-ne0.false) front (ap (λ n. take n (drop 2 ds)) less) c.frame_of.ensures) in
+    (reads_digits ds _ c.args.place c.byte.result c.frame_of.result (digits, even, long) (sym is ∙ c.if-sum-ne0.false) kind (ap (λ n. take n (drop 2 ds)) less) c.frame_of.ensures) in
     record { reads = reading; writes_again = result_writes c.args.line.now c.args.place c.frame_of.result reading }

@@ -9,10 +9,10 @@ use Rattle.frame.proofs.reads.sum_of.Goals as goal
 pub loop-rest-preserved : goal.loop-rest-preserved
 loop-rest-preserved c =
     let rest = c.loop-rest.rest.now in
-    let high = c.in-Some.high in
-    let low = c.in-Some-digit.low in
+    let high = c.in_ok-high.high in
+    let low = c.in_ok-low.low in
     let long : 2 ≤ length rest = search rules in
-    let front : Front rest high low = (long, sym c.digit.ensures ∙ c.in-Some.is, sym c.digit-in-len2-up.ensures ∙ c.in-Some-digit.is) in
+    let front : Front rest high low = (long, c.in_ok-high.ensures, c.in_ok-low.ensures) in
     let inv = c.loop-rest.invariant in
     let shorter : length (drop 2 rest) ≡ length rest - 2 = length-drop 2 rest in (
       ap all_digits (take_rest rest 2) ∙ digits_after_front rest high low front ∙ inv.0,

@@ -17,4 +17,4 @@ returns c =
     let ((_, room, is, _), _) = c.in-Some.ensures.lookup in
     let high : get_or pair 0 0 ≡ get_or ds (2 * at) 0 = ap (λ l. get_or l 0 0) is ∙ grind (arith, common_steps) in
     let low : get_or pair 1 0 ≡ get_or ds (2 * at + 1) 0 = ap (λ l. get_or l 1 0) is ∙ grind (arith, common_steps) in
-    ap₂ (λ x y. x * 16 + y) (c.number.ensures.value ∙ ap number_of high) (c.number-2.ensures.value ∙ ap number_of low) ∙ sym (byte_at ds at room)
+    c.byte.ensures ∙ ap₂ (λ x y. number_of x * 16 + number_of y) high low ∙ sym (byte_at ds at room)
