@@ -1,7 +1,8 @@
 -- The faults of a line, one after another.
-use Rattle.std.proofs.Common.{◌≡◌, ℕ, ◌+◌, ◌-◌, ◌*◌, ◌/◌, ◌%◌, ◌≤◌, Bool, true, not, ◌||◌, eqb, ltb, List, [], ◌∷◌, length, get_or, take, drop, Ok, Err, sum, Result, sym, refl, ap, ◌∙◌, ap₂, arith}
+use Rattle.std.proofs.Common.{◌≡◌, ℕ, ◌+◌, ◌-◌, ◌*◌, ◌/◌, ◌%◌, ◌<◌, ◌≤◌, Bool, true, not, ◌||◌, eqb, ltb, List, [], ◌∷◌, length, get_or, take, drop, Ok, Err, sum, Result, sym, refl, ap, ◌∙◌, ap₂, arith}
 use Rattle.std.proofs.lemmas.List.{length-drop, length-take-le}
-use Rattle.std.proofs.lemmas.Bool.{ne_eqb, eq-eqb, eqb-false, le-ltb, not-false}
+use Rattle.std.proofs.lemmas.Bool.{ne_eqb, eq-eqb, eqb-false, le-ltb, lt-ltb, not-false}
+use Rattle.std.proofs.Math.Bool.{or-true}
 use Rattle.refusal.specs.declared.Refusal.{Refusal}
 use Rattle.refusal.specs.declared.Refusal.TheVariants.{Foreign, OddOrShort, WrongCheck}
 use Rattle.refusal.specs.Outcomes.{Outcome, refuse_if, Tells}
@@ -35,6 +36,11 @@ module _ (ds : List ℕ) (paired : Paired ds) where
 
   pub right_check : sum (bytes_of ds) % 256 ≡ 0 → check_digits ds ≡ kind_checked
   right_check e = comes_to_check ∙ refuse_passed wrong WrongCheck kind_checked (ap not (eq-eqb _ 0 e))
+
+pub too_few : (ds : List ℕ) → all_digits ds ≡ true → length ds < 4 → check_digits ds ≡ Err OddOrShort
+too_few ds digits few =
+    refuse_passed (not (all_digits ds)) Foreign _ (ap not digits)
+    ∙ refuse_applies _ OddOrShort _ (ap (λ b. eqb (length ds % 2) 1 || b) (lt-ltb (length ds) 4 few) ∙ or-true (eqb (length ds % 2) 1))
 
 pub length_bytes : (ds : List ℕ) → length (bytes_of ds) ≡ length ds / 2
 length_bytes [] = refl

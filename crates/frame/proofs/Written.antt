@@ -24,6 +24,3 @@ module _ (kind : ℕ) (payload : List ℕ) (bytes : ℕ) (known : payload_length
 
     pub too_short : room < length (line_of kind payload) → check_write kind payload room ≡ Err MemoryTooShort
     too_short lt = passed (refuse_if short MemoryTooShort (Ok tt)) ∙ refuse_applies short MemoryTooShort (Ok tt) (lt-ltb room (length (line_of kind payload)) lt)
-
-    pub long_enough : length (line_of kind payload) ≤ room → check_write kind payload room ≡ Ok tt
-    long_enough le = passed (refuse_if short MemoryTooShort (Ok tt)) ∙ refuse_passed short MemoryTooShort (Ok tt) (le-ltb room (length (line_of kind payload)) le)

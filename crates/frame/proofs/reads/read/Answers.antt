@@ -1,11 +1,18 @@
-use Rattle.std.proofs.Common.{◌≡◌, ◌-◌, ◌≤◌, length, take, drop, Err, sym, ap, ◌∙◌, subst, arith, rules}
-use Rattle.refusal.specs.declared.Refusal.TheVariants.{WrongCheck}
+use Rattle.std.proofs.Common.{◌≡◌, ◌-◌, ◌<◌, ◌≤◌, length, take, drop, Err, sym, ap, ◌∙◌, subst, arith, rules}
+use Rattle.refusal.specs.declared.Refusal.TheVariants.{OddOrShort, WrongCheck}
 use Rattle.frame.specs.Lines.{check_digits}
 use Rattle.frame.specs.Frames.{DigitsRead, Reads}
 use Rattle.frame.proofs.Fields.{byte_at}
 use Rattle.frame.proofs.Again.{result_writes}
-use Rattle.frame.proofs.Readings.{sum_passes, wrong_check, reads_digits}
+use Rattle.frame.proofs.Readings.{sum_passes, too_few, wrong_check, reads_digits}
 use Rattle.frame.proofs.reads.read.Goals as goal
+
+pub returns-in_default-clause-reads : goal.returns-in_default-clause-reads
+returns-in_default-clause-reads c =
+    let ds = c.digits_in-digits.result.now in
+    let (digits, _) = sum_passes ds c.in_ok-sum.ensures.0 in
+    let few : length ds < 4 = search rules in
+    (subst (λ l. check_digits l ≡ Err OddOrShort) c.digits_in-digits.ensures (too_few ds digits few), tt)
 
 pub returns-then-sum-ne0 : goal.returns-then-sum-ne0
 returns-then-sum-ne0 c =
