@@ -1,5 +1,5 @@
 -- The faults of a line, one after another.
-use Rattle.std.proofs.Common.{◌≡◌, ℕ, ◌+◌, ◌-◌, ◌*◌, ◌/◌, ◌%◌, ◌<◌, ◌≤◌, Bool, true, not, ◌||◌, eqb, ltb, List, [], ◌∷◌, length, get_or, take, drop, Ok, Err, sum, Result, sym, refl, ap, ◌∙◌, ap₂, arith}
+use Rattle.std.proofs.Common.{◌≡◌, ℕ, ◌-◌, ◌/◌, ◌%◌, ◌<◌, ◌≤◌, Bool, true, not, ◌||◌, eqb, ltb, List, [], ◌∷◌, length, take, drop, Ok, Err, sum, Result, sym, refl, ap, ◌∙◌, ap₂, arith}
 use Rattle.std.proofs.lemmas.List.{length-drop, length-take-le}
 use Rattle.std.proofs.lemmas.Bool.{ne_eqb, eq-eqb, eqb-false, le-ltb, lt-ltb, not-false}
 use Rattle.std.proofs.Math.Bool.{or-true}

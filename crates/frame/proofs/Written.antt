@@ -1,6 +1,6 @@
 -- What can be wrong with a line that is to be written.
-use Rattle.std.proofs.Common.{◌≡◌, ℕ, ◌<◌, ◌≤◌, Bool, not, ltb, List, length, is_some, Some, Ok, Err, ap, ◌∙◌}
-use Rattle.std.proofs.lemmas.Bool.{eq-eqb, lt-ltb, le-ltb}
+use Rattle.std.proofs.Common.{◌≡◌, ℕ, ◌<◌, Bool, not, ltb, List, length, is_some, Some, Ok, Err, ap, ◌∙◌}
+use Rattle.std.proofs.lemmas.Bool.{eq-eqb, lt-ltb}
 use Rattle.refusal.specs.declared.Refusal.TheVariants.{UnknownKind, WrongLength, MemoryTooShort}
 use Rattle.refusal.specs.Outcomes.{Outcome, refuse_if}
 use Rattle.refusal.proofs.Outcomes.{refuse_applies, refuse_passed}

@@ -69,6 +69,7 @@ impl Payload<'_> {
 }
 
 impl<'a> Frame<'a> {
+    // What the kind byte of the line says.
     fn tag(self) -> Tag
         ensures { tag_byte result ≡ kind_of self.entry }
     {
