@@ -1,10 +1,12 @@
 -- The arcs of a net as it is drawn, and after a transition was given its own.
-use Rattle.std.proofs.Common.{◌≡◌, ℕ, ◌^◌, ◌<◌, cond, eqb, List, length, get_or, set, replicate, sym, ap, ◌∙◌, ⊎_elim, arith, pow_pos}
+use Rattle.std.proofs.Common.{◌≡◌, ℕ, ◌^◌, ◌<◌, cond, eqb, List, length, set, replicate, sym, refl, ap, ◌∙◌, ⊎_elim, arith, pow_pos}
 use lib.Bits.{bit_and}
 use Rattle.std.proofs.lemmas.List.{get_or-set_same, get_or-set_other, get_or-replicate, get_or_past, length-replicate}
 use Rattle.std.proofs.lemmas.Bool.{cases_eq, cases_lt, cond-true, cond-false, eq-eqb, ne_eqb}
-use Rattle.net.specs.Arcs.{Arcs, Ended}
+use Rattle.net.specs.declared.transition.Transition.{Transition}
+use Rattle.net.specs.Arcs.{no_arcs, arcs_at, Arcs, Ended}
 use Rattle.net.specs.Nets.{PetriNet}
+use Rattle.net.specs.Drawings.{without_arcs}
 
 -- nets with the same numbers are one net
 pub same_drawn : (n n' : PetriNet) → n.places ≡ n'.places → n.transitions ≡ n'.transitions → n.marks ≡ n'.marks
@@ -13,39 +15,42 @@ same_drawn n n' p t m takes gives = λ i. record { places = p i; transitions = t
 
 -- ---- no arcs
 
-pub none_at : (n t : ℕ) → get_or {A = ℕ} (replicate n 0) t 0 ≡ 0
-none_at n t = ⊎_elim (λ h. get_or-replicate n t 0 0 h) (λ h. get_or_past (replicate n 0) t 0 (omega (arith, length-replicate {A = ℕ} n 0))) (cases_lt t n)
+pub none_at : (n t : ℕ) → arcs_at (replicate n no_arcs) t ≡ no_arcs
+none_at n t = ⊎_elim (λ h. get_or-replicate n t no_arcs no_arcs h) (λ h. get_or_past (replicate n no_arcs) t no_arcs (omega (arith, length-replicate n no_arcs))) (cases_lt t n)
 
-pub arcs_none : (p n : ℕ) → Arcs p (replicate n 0) (replicate n 0)
-arcs_none p n t =
-    let zero = none_at n t in
-    let small = pow_pos p in
-    (omega (arith, zero), omega (arith, zero), ap (λ k. bit_and k (get_or (replicate n 0) t 0)) zero)
+pub arcs_none : (p n : ℕ) → Arcs p (replicate n no_arcs)
+arcs_none p n t = rw (none_at n t) (pow_pos p, pow_pos p, refl)
 
-pub ended_none : (p n : ℕ) → Ended p (replicate n 0) (replicate n 0)
-ended_none p n t le = (none_at n t, none_at n t)
+pub ended_none : (p n : ℕ) → Ended p (replicate n no_arcs)
+ended_none p n t le = rw (none_at n t) (refl, refl)
+
+-- what a table without arcs is drawn as
+abbrev bare_net : ℕ → ℕ → ℕ → PetriNet
+bare_net places transitions marks = record {
+  places = places;
+  transitions = transitions;
+  marks = marks;
+  takes = λ t. (arcs_at (replicate 64 no_arcs) t).taken;
+  gives = λ t. (arcs_at (replicate 64 no_arcs) t).given;
+}
+
+-- a table without arcs is that of a net without arcs
+pub drawn_bare : (places transitions marks : ℕ)
+    → bare_net places transitions marks ≡ without_arcs places transitions marks
+drawn_bare places transitions marks = same_drawn (bare_net places transitions marks) (without_arcs places transitions marks) refl refl refl
+    (λ t. ap (λ a. a.taken) (none_at 64 t)) (λ t. ap (λ a. a.given) (none_at 64 t))
 
 -- ---- the arcs of transition i
 
-pub set_at : (xs : List ℕ) (i a t : ℕ) → i < length xs → get_or (set xs i a) t 0 ≡ cond (eqb t i) a (get_or xs t 0)
-set_at xs i a t lt =
+pub arcs_set : (p i : ℕ) (a : Transition) (table : List Transition) → i < length table → a.taken < 2 ^ p → a.given < 2 ^ p → bit_and a.taken a.given ≡ 0 → Arcs p table → Arcs p (set table i a)
+arcs_set p i a table lt ha hb none old t =
     ⊎_elim
-    (λ e. ap (λ k. get_or (set xs i a) k 0) e ∙ get_or-set_same xs i a 0 lt ∙ sym (cond-true (eqb t i) a (get_or xs t 0) (eq-eqb t i e)))
-    (λ ne. get_or-set_other xs i t a 0 ne ∙ sym (cond-false (eqb t i) a (get_or xs t 0) (ne_eqb t i ne)))
+    (λ e. let is : arcs_at (set table i a) t ≡ a = ap (λ k. arcs_at (set table i a) k) e ∙ get_or-set_same table i a no_arcs lt in rw is (ha, hb, none))
+    (λ ne. let is : arcs_at (set table i a) t ≡ arcs_at table t = get_or-set_other table i t a no_arcs ne in rw is (old t))
     (cases_eq t i)
 
-pub arcs_set : (p i a b : ℕ) (takes gives : List ℕ) → i < length takes → i < length gives → a < 2 ^ p → b < 2 ^ p → bit_and a b ≡ 0 → Arcs p takes gives → Arcs p (set takes i a) (set gives i b)
-arcs_set p i a b takes gives lt lg ha hb none old t =
-    ⊎_elim
-    (λ e. let x : get_or (set takes i a) t 0 ≡ a = ap (λ k. get_or (set takes i a) k 0) e ∙ get_or-set_same takes i a 0 lt in
-    let y : get_or (set gives i b) t 0 ≡ b = ap (λ k. get_or (set gives i b) k 0) e ∙ get_or-set_same gives i b 0 lg in
-    (omega (arith, x), omega (arith, y), rw (x, y) none))
-    (λ ne. let x = get_or-set_other takes i t a 0 ne in
-    let y = get_or-set_other gives i t b 0 ne in
-    rw (x, y) (old t))
-    (cases_eq t i)
-
-pub ended_set : (m i a b : ℕ) (takes gives : List ℕ) → i < m → Ended m takes gives → Ended m (set takes i a) (set gives i b)
-ended_set m i a b takes gives lt old t le =
+pub ended_set : (m i : ℕ) (a : Transition) (table : List Transition) → i < m → Ended m table → Ended m (set table i a)
+ended_set m i a table lt old t le =
     let ne : t ≡ i → ⊥ = λ e. omega arith in
-    (get_or-set_other takes i t a 0 ne ∙ (old t le).0, get_or-set_other gives i t b 0 ne ∙ (old t le).1)
+    let is : arcs_at (set table i a) t ≡ arcs_at table t = get_or-set_other table i t a no_arcs ne in
+    rw is (old t le)

@@ -111,6 +111,10 @@ in_below k s p h i =
     omega arith)
     (cases_lt p k)
 
+-- a set of k places has none from k on
+pub has_past : (k s p : ℕ) → s < 2 ^ k → k ≤ p → has s p ≡ false
+has_past k s p fits past = has_out p s (λ i. let lt = in_below k s p fits i in omega arith)
+
 -- sets with the same members are equal
 pub same_members : (a b : ℕ) → Subset a b → Subset b a → a ≡ b
 same_members a b f g =

@@ -2,7 +2,8 @@
 --   PetriNet   a net by its numbers, with the set that each transition takes and the set that it gives
 --   drawn      the numbers of a net of the code
 --   Kept       what every net keeps
-use Rattle.std.specs.Prelude.{◌≡◌, ℕ, ◌^◌, ◌<◌, ◌≤◌, slice_index}
+use Rattle.std.specs.Prelude.{◌≡◌, ℕ, ◌^◌, ◌<◌, ◌≤◌}
+use Rattle.net.specs.Arcs.{arcs_at}
 use Rattle.net.specs.Sets.{intersection}
 use Rattle.net.specs.declared.net.Net.{Net}
 
@@ -15,7 +16,7 @@ pub record PetriNet : Type 0 where
   pub gives : ℕ → ℕ
 
 abbrev pub drawn : Net → PetriNet
-drawn n = record { places = n.places; transitions = n.transitions; marks = n.marks; takes = λ t. slice_index n.takes t; gives = λ t. slice_index n.gives t }
+drawn n = record { places = n.places; transitions = n.transitions; marks = n.marks; takes = λ t. (arcs_at n.table t).taken; gives = λ t. (arcs_at n.table t).given }
 
 -- the sets lie below the number of places, no transition takes and gives one place, and there are no arcs from the last transition on
 pub record Kept (n : PetriNet) : Type 0 where

@@ -5,6 +5,7 @@ ghost use Rattle.net.specs.Drawings.{without_arcs, with_arcs, draw_outcome, arcs
 
 use crate::net::Net;
 use crate::sets::within;
+use crate::transition::{BARE, Transition};
 use refusal::Refusal;
 
 // A net has at most so many places, and at most so many transitions.
@@ -15,13 +16,11 @@ impl Net {
     pub fn new() -> Net
         ensures { drawn result ≡ without_arcs 0 0 0 }
     {
-        let none = [0; 64];
         Net {
             places: 0,
             transitions: 0,
             marks: 0,
-            takes: none,
-            gives: none,
+            table: [BARE; 64],
         }
     }
 
@@ -39,13 +38,11 @@ impl Net {
         if !within(marks, places) {
             return Err(Refusal::MarkOutside);
         }
-        let none = [0; 64];
         *self = Net {
             places,
             transitions,
             marks,
-            takes: none,
-            gives: none,
+            table: [BARE; 64],
         };
         Ok(())
     }
@@ -64,16 +61,13 @@ impl Net {
         if taken & given != 0 {
             return Err(Refusal::TakenAndGiven);
         }
-        let mut takes = self.takes;
-        takes[transition as usize] = taken;
-        let mut gives = self.gives;
-        gives[transition as usize] = given;
+        let mut table = self.table;
+        table[transition as usize] = Transition { taken, given };
         *self = Net {
             places: self.places,
             transitions: self.transitions,
             marks: self.marks,
-            takes,
-            gives,
+            table,
         };
         Ok(())
     }

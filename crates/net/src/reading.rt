@@ -1,8 +1,10 @@
 // Reading a net.
 ghost use Rattle.std.specs.Prelude.{◌≡◌};
+ghost use Rattle.net.specs.Arcs.{arcs_at};
 ghost use Rattle.net.specs.Nets.{drawn};
 
 use crate::net::Net;
+use crate::transition::{BARE, Transition};
 
 impl Net {
     // How many places the net has.
@@ -26,18 +28,25 @@ impl Net {
         self.marks
     }
 
+    // Transition `t`; one without arcs where there is no such transition.
+    fn transition(&self, t: u8) -> Transition
+        ensures { result ≡ arcs_at self.now.table t }
+    {
+        self.table.get(t as usize).copied().unwrap_or(BARE)
+    }
+
     // The places that transition `t` takes; none where there is no such transition.
     pub fn takes(&self, t: u8) -> u64
         ensures { result ≡ (drawn self.now).takes t }
     {
-        if t < 64 { self.takes[t as usize] } else { 0 }
+        self.transition(t).taken
     }
 
     // The places that transition `t` gives; none where there is no such transition.
     pub fn gives(&self, t: u8) -> u64
         ensures { result ≡ (drawn self.now).gives t }
     {
-        if t < 64 { self.gives[t as usize] } else { 0 }
+        self.transition(t).given
     }
 
     // The same net once more.
@@ -48,8 +57,7 @@ impl Net {
             places: self.places,
             transitions: self.transitions,
             marks: self.marks,
-            takes: self.takes,
-            gives: self.gives,
+            table: self.table,
         }
     }
 }

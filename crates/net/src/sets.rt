@@ -3,6 +3,13 @@ ghost use Rattle.std.specs.Prelude.{◌≡◌, ◌-◌, ◌^◌, ◌<◌, min, D
 ghost use Rattle.net.specs.Sets.{has};
 ghost use Rattle.net.specs.Lowest.{Lowest};
 
+// Whether the place is in the set. A set is of 64 places, so none is in it from 64 on.
+pub fn has(set: u64, place: u8) -> bool
+    ensures { result ≡ has set place }
+{
+    place < 64 && set >> place & 1 == 1
+}
+
 // The set of the places below `count`; of all 64 where `count` is more.
 pub fn below(count: u8) -> u64
     ensures { result ≡ 2 ^ min count 64 - 1 }
