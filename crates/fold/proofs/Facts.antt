@@ -14,7 +14,7 @@ use Rattle.fold.specs.declared.folded.Folded.{Folded}
 use Rattle.fold.specs.declared.fusion.Fusion.{Fusion}
 use Rattle.fold.specs.declared.step.Step.{Step}
 use Rattle.fold.proofs.Foldings.{folding_covers, folding_room, folding_back}
-use Rattle.fold.proofs.Fused.{applied_replaces, applied_kept, applied_same}
+use Rattle.fold.proofs.Fused.{fusion_applies, applied_kept, applied_same}
 
 -- how many fusions were made
 abbrev pub made : Folded → ℕ
@@ -38,18 +38,12 @@ folded_strands_unfold f s strand =
 -- ---- one fusion more
 
 module _ (n : PetriNet) (kept : Kept n) (few : n.places ≤ 64) (fusion : Fusion) (can : Applies n fusion) where
-  pub noted_place_below : (step_of n fusion).place < 64
-  noted_place_below = let h = (applied_replaces n kept few fusion can).p_below in omega arith
-
   -- the replacement of a plan is a net, and is the net after the fusion
   module _ (x : ℕ) (step : Step) (xs : x ≡ emptied n fusion) (steps : step ≡ step_of n fusion) where
-    pub plan_below : step.place < 64
-    plan_below = subst (λ p. p.place < 64) (sym steps) noted_place_below
-
-    pub plan_same : replaced n x step.place step.set ≡ net_after n fusion
+    plan_same : replaced n x step.place step.set ≡ net_after n fusion
     plan_same = ap₂ (λ y (s : Step). replaced n y s.place s.set) xs steps ∙ applied_same n kept few fusion can
 
-    pub plan_kept : Kept (replaced n x step.place step.set)
+    plan_kept : Kept (replaced n x step.place step.set)
     plan_kept = subst Kept (sym plan_same) (applied_kept n kept few fusion can)
 
 module _ (f : Folded) (fusion : Fusion) (next : fusion_of (folded_net f) ≡ Some fusion) where
@@ -69,6 +63,14 @@ module _ (f : Folded) (fusion : Fusion) (next : fusion_of (folded_net f) ≡ Som
       let few = folding_room (folded_original f) (net_kept f.original) f.original.placed (suc (made f)) each_there in
       let most = f.original.counted in
       omega arith
+
+  -- the net after a planned replacement is the net after the fusion, and is a net
+  module _ (x : ℕ) (step : Step) (xs : x ≡ emptied (folded_net f) fusion) (steps : step ≡ step_of (folded_net f) fusion) where
+    pub plan_net : (new : PetriNet) → new ≡ replaced (folded_net f) x step.place step.set → new ≡ net_after (folded_net f) fusion
+    plan_net new e = e ∙ plan_same (folded_net f) (net_kept f.folded) f.folded.placed fusion (fusion_applies (folded_net f) fusion next) x step xs steps
+
+    pub plan_net_kept : Kept (replaced (folded_net f) x step.place step.set)
+    plan_net_kept = plan_kept (folded_net f) (net_kept f.folded) f.folded.placed fusion (fusion_applies (folded_net f) fusion next) x step xs steps
 
   pub next_net : (new : PetriNet) → new ≡ net_after (folded_net f) fusion → new ≡ folding (folded_original f) ((made f) + 1)
   next_net new e =

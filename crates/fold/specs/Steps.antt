@@ -14,7 +14,6 @@
 --   SameArcs        each transition takes the same set in two nets, and gives the same set
 --   Noted           a fusion applied before each of the first steps, and the step is what that fusion notes
 --   put_back        the set with the noted place in it where it meets the noted set, and without that place otherwise
---   undo            the noted place of step k put back
 --   unfolded        each noted place put back, that of the last step first
 use Rattle.std.specs.Prelude.{◌≡◌, ℕ, zero, suc, ◌^◌, ◌<◌, true, cond, List, [], ◌∷◌, is_some, Some, None, Option, ◌==◌, slice_index_or}
 use Rattle.std.specs.Option.{unwrap_or, option_map}
@@ -78,9 +77,6 @@ Noted n steps count = (k : ℕ) → k < count → (is_some (fusion_of (folding n
 
 abbrev pub put_back : ℕ → ℕ → ℕ → ℕ
 put_back p meeting s = cond (intersection meeting s == 0) (difference s (2 ^ p)) (union s (2 ^ p))
-
-abbrev pub undo : List Step → ℕ → ℕ → ℕ
-undo steps k s = put_back (slice_index_or steps k nothing_noted).place (slice_index_or steps k nothing_noted).set s
 
 abbrev pub unfolded : List Step → ℕ → ℕ
 unfolded [] s = s
