@@ -5,11 +5,10 @@ use Rattle.std.proofs.Math.Seq.{get_or-append_seam}
 use Rattle.std.proofs.lemmas.Bool.{cases_eq}
 use Rattle.net.specs.Nets.{PetriNet, Kept}
 use Rattle.net.specs.Strands.{Strand, HasCover}
-use Rattle.net.proofs.Drawn.{same_drawn}
 use Rattle.net.proofs.Kept.{net_kept}
 use Rattle.fold.specs.Foldings.{folded_original, folded_net, folded_steps}
 use Rattle.fold.specs.Fusions.{replaced}
-use Rattle.fold.specs.Steps.{fusion_of, Applies, emptied, step_of, net_after, after_fusion, folding, nothing_noted, noted, noted_by, SameNumbers, SameArcs, Noted, unfolded}
+use Rattle.fold.specs.Steps.{fusion_of, Applies, emptied, step_of, net_after, after_fusion, folding, nothing_noted, noted, noted_by, Noted, unfolded}
 use Rattle.fold.specs.declared.folded.Folded.{Folded}
 use Rattle.fold.specs.declared.fusion.Fusion.{Fusion}
 use Rattle.fold.specs.declared.step.Step.{Step}
@@ -20,20 +19,15 @@ use Rattle.fold.proofs.Fused.{fusion_applies, applied_kept, applied_same}
 abbrev pub made : Folded → ℕ
 made f = length (folded_steps f)
 
--- the folded net is what the fusions make of the original
-pub folded_is : (f : Folded) → folded_net f ≡ folding (folded_original f) (made f)
-folded_is f =
-    same_drawn (folded_net f) (folding (folded_original f) (made f)) f.numbered.0 f.numbered.1 f.numbered.2 (λ t. (f.arced t).0) (λ t. (f.arced t).1)
-
 pub folded_keeps_covers : (f : Folded) → HasCover (folded_net f) ↔ HasCover (folded_original f)
 folded_keeps_covers f =
-    subst (λ n. HasCover n ↔ HasCover (folded_original f)) (sym (folded_is f)) (folding_covers (folded_original f) (net_kept f.original) f.original.placed (made f))
+    subst (λ n. HasCover n ↔ HasCover (folded_original f)) (sym f.fused) (folding_covers (folded_original f) (net_kept f.original) f.original.placed (made f))
 
 -- a strand of the folded net unfolds to a strand of the original, or to nothing
 pub folded_strands_unfold : (f : Folded) (s : ℕ) → Strand (folded_net f) s
     → Strand (folded_original f) (unfolded (folded_steps f) s) ⊎ (unfolded (folded_steps f) s ≡ 0)
 folded_strands_unfold f s strand =
-    folding_back (folded_original f) (net_kept f.original) f.original.placed (folded_steps f) f.noted s (inl (subst (λ n. Strand n s) (folded_is f) strand))
+    folding_back (folded_original f) (net_kept f.original) f.original.placed (folded_steps f) f.noted s (inl (subst (λ n. Strand n s) f.fused strand))
 
 -- ---- one fusion more
 
@@ -48,7 +42,7 @@ module _ (n : PetriNet) (kept : Kept n) (few : n.places ≤ 64) (fusion : Fusion
 
 module _ (f : Folded) (fusion : Fusion) (next : fusion_of (folded_net f) ≡ Some fusion) where
   next_there : is_some (fusion_of (folding (folded_original f) (made f))) ≡ true
-  next_there = ap (λ n. is_some (fusion_of n)) (sym (folded_is f)) ∙ ap is_some next
+  next_there = ap (λ n. is_some (fusion_of n)) (sym f.fused) ∙ ap is_some next
 
   -- a step was made before each step, and one is made now
   each_there : (j : ℕ) → j < suc (made f) → is_some (fusion_of (folding (folded_original f) j)) ≡ true
@@ -74,7 +68,7 @@ module _ (f : Folded) (fusion : Fusion) (next : fusion_of (folded_net f) ≡ Som
 
   pub next_net : (new : PetriNet) → new ≡ net_after (folded_net f) fusion → new ≡ folding (folded_original f) ((made f) + 1)
   next_net new e =
-      e ∙ sym (ap (after_fusion (folded_net f)) next) ∙ ap (λ n. after_fusion n (fusion_of n)) (folded_is f) ∙ ap (folding (folded_original f)) (sym (add-one (made f)))
+      e ∙ sym (ap (after_fusion (folded_net f)) next) ∙ ap (λ n. after_fusion n (fusion_of n)) f.fused ∙ ap (folding (folded_original f)) (sym (add-one (made f)))
 
   pub next_covers : (new : PetriNet) → new ≡ net_after (folded_net f) fusion → HasCover new ↔ HasCover (folded_original f)
   next_covers new e =
@@ -91,10 +85,4 @@ module _ (f : Folded) (fusion : Fusion) (next : fusion_of (folded_net f) ≡ Som
       (cases_eq k (made f))
     where
       note : step ≡ noted (folding (folded_original f) (made f))
-      note = is ∙ sym (ap (noted_by (folded_net f)) next) ∙ ap noted (folded_is f)
-
-pub same_numbers : (n n' : PetriNet) → n ≡ n' → SameNumbers n n'
-same_numbers n n' e = (ap (λ (m : PetriNet). m.places) e, ap (λ (m : PetriNet). m.transitions) e, ap (λ (m : PetriNet). m.marks) e)
-
-pub same_arcs : (n n' : PetriNet) → n ≡ n' → SameArcs n n'
-same_arcs n n' e t = (ap (λ (m : PetriNet). m.takes t) e, ap (λ (m : PetriNet). m.gives t) e)
+      note = is ∙ sym (ap (noted_by (folded_net f)) next) ∙ ap noted f.fused

@@ -1,7 +1,7 @@
 use Rattle.std.proofs.Common.{[], ◌∷◌, ◌++◌, sym, refl, ap, ◌∙◌, length-append, arith}
 use Rattle.net.specs.Nets.{drawn}
 use Rattle.fold.specs.Foldings.{folded_net, folded_steps}
-use Rattle.fold.proofs.Facts.{folded_keeps_covers, plan_net, plan_net_kept, room_for_step, next_net, next_covers, next_noted, same_numbers, same_arcs}
+use Rattle.fold.proofs.Facts.{folded_keeps_covers, plan_net, plan_net_kept, room_for_step, next_net, next_covers, next_noted}
 use Rattle.fold.proofs.Fused.{fusion_applies}
 use Rattle.fold.proofs.folded.Folded.fuse.Goals as goal
 
@@ -25,10 +25,8 @@ invariant_of-self c =
     let step = c.plan-transition.result.1 in
     let new = drawn c.replace-self.result in
     let is = plan_net f fusion next _ _ c.plan-transition.ensures.transition c.plan-transition.ensures.step new c.replace-self.ensures in
-    let then = next_net f fusion next new is in
     rw (c.push.ensures.items, length-append (folded_steps f) (step ∷ [])) (record {
-      numbered = same_numbers new _ then;
-      arced = same_arcs new _ then;
+      fused = next_net f fusion next new is;
       noted = next_noted f fusion next step c.plan-transition.ensures.step;
     })
 
