@@ -1,6 +1,6 @@
 -- Sums: the start, a step, sums of equal terms and sums of sums.
 use Rattle.std.specs.List.{fold, filter, range_with_len}
-use Rattle.std.proofs.Common.{Bool, true, false, cond, ◌∷◌, List, ◌≡◌, ℕ, zero, suc, ◌+◌, ◌<◌, sym, refl, ap, ◌∙◌, ap₂, add-one, arith}
+use Rattle.std.proofs.Common.{Bool, true, false, cond, ◌≡◌, ℕ, zero, suc, ◌+◌, ◌<◌, sym, refl, ap, ◌∙◌, ap₂, add-one, arith}
 use Rattle.board.proofs.Folds.{fold_where}
 use Rattle.weight.specs.Additions.{Addition, CommutativeMonoid}
 use Rattle.weight.specs.Weights.{summed}
