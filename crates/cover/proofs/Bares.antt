@@ -1,8 +1,7 @@
 -- Bare places by their members, one strand more, and room for the next strand.
-use Rattle.std.proofs.Common.{◌≡◌, ℕ, zero, suc, ◌+◌, ◌-◌, ◌/◌, ◌%◌, ◌^◌, ◌<◌, ◌≤◌, true, T, eqb, ◌↔◌, List, [], ◌∷◌, ◌++◌, length, take, set, is_ok, Ok, Err, sym, refl, ap, ◌∙◌, subst, inl, inr, ⊎_elim, pow-suc, arith, pow_pos}
+use Rattle.std.proofs.Common.{◌≡◌, ℕ, zero, suc, ◌+◌, ◌-◌, ◌/◌, ◌%◌, ◌^◌, ◌<◌, ◌≤◌, true, T, eqb, ◌↔◌, List, [], ◌∷◌, ◌++◌, is_ok, Ok, Err, sym, refl, ap, ◌∙◌, subst, inl, inr, ⊎_elim, pow-suc, arith, pow_pos}
 use Rattle.std.proofs.lemmas.Nat.{ones-le}
 use Rattle.std.proofs.ByRecursion.{All-get_or, All-from_get_or, All-push}
-use Rattle.std.proofs.lemmas.List.{take_more_set}
 use Rattle.std.proofs.lemmas.Bool.{eqb-false, ne_eqb, false≢true}
 use Rattle.refusal.specs.declared.Refusal.TheVariants.{NoBarePlace}
 use Rattle.net.specs.Nets.{PetriNet}
@@ -73,18 +72,14 @@ pub without_each_more : (rs : List ℕ) (s r : ℕ) → without_each s (rs ++ r 
 without_each_more [] s r = refl
 without_each_more (x ∷ rs) s r = without_each_more rs (difference s x) r
 
-pub bare_more : (n : PetriNet) (xs : List ℕ) (count bare s : ℕ) → count < length xs → bare ≡ bare_places n (take count xs)
-    → difference bare s ≡ bare_places n (take (count + 1) (set xs count s))
-bare_more n xs count bare s lt is =
-    ap (λ b. difference b s) is ∙ sym (without_each_more (take count xs) (2 ^ n.places - 1) s) ∙ ap (bare_places n) (sym (take_more_set xs count s lt))
+pub bare_more : (n : PetriNet) (ss : List ℕ) (bare s : ℕ) → bare ≡ bare_places n ss → difference bare s ≡ bare_places n (ss ++ s ∷ [])
+bare_more n ss bare s is = ap (λ b. difference b s) is ∙ sym (without_each_more ss (2 ^ n.places - 1) s)
 
-pub checked_more : (n : PetriNet) (xs : List ℕ) (count s : ℕ) → count < length xs → Checked n (take count xs) → is_ok (check_outcome n s) ≡ true
-    → Checked n (take (count + 1) (set xs count s))
-checked_more n xs count s lt old passes =
+pub checked_more : (n : PetriNet) (ss : List ℕ) (s : ℕ) → Checked n ss → is_ok (check_outcome n s) ≡ true → Checked n (ss ++ s ∷ [])
+checked_more n ss s old passes =
     let P : ℕ → Type 0 = λ x. is_ok (check_outcome n x) ≡ true in
-    let all = All-push P (take count xs) s (All-from_get_or P (take count xs) 0 old) passes in
-    let whole : Checked n (take count xs ++ s ∷ []) = λ k l. All-get_or P (take count xs ++ s ∷ []) k 0 l all in
-    subst (Checked n) (sym (take_more_set xs count s lt)) whole
+    let all = All-push P ss s (All-from_get_or P ss 0 old) passes in
+    λ k l. All-get_or P (ss ++ s ∷ []) k 0 l all
 
 -- ---- room: as many strands fit as there are places
 

@@ -38,10 +38,10 @@ module _ (n : PetriNet) (ss : List ℕ) (bare : ℕ) (is : bare ≡ bare_places 
 -- ---- what a certified net holds
 
 pub certified_cover : (c : Certified) → Cover (certified_net c) (certified_strands c)
-certified_cover c = bare_none_covers (certified_net c) (certified_strands c) c.checked c.covered
+certified_cover c = bare_none_covers (certified_net c) (certified_strands c) c.sheet.checked c.covered
 
 pub certified_safe : (c : Certified) → Safe (certified_net c)
-certified_safe c = covered_safe (certified_net c) (net_kept c.net) (certified_strands c, certified_cover c)
+certified_safe c = covered_safe (certified_net c) (net_kept c.sheet.net) (certified_strands c, certified_cover c)
 
 pub certified_contact_free : (c : Certified) → ContactFree (certified_net c)
-certified_contact_free c = covered_contact_free (certified_net c) (net_kept c.net) (certified_strands c, certified_cover c)
+certified_contact_free c = covered_contact_free (certified_net c) (net_kept c.sheet.net) (certified_strands c, certified_cover c)

@@ -1,4 +1,3 @@
 pub mod Passing
 pub mod Bares
-pub mod Numbered
 pub mod Covers

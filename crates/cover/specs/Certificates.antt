@@ -3,10 +3,10 @@
 --   certified_strands   the strands that cover it, in the order in which they were accepted
 --   certify_outcome     refused with the lowest bare place, if one is left
 --   TakenOver           the net and the strands of the sheet were taken over, or were refused and the certified net is as it was
-use Rattle.std.specs.Prelude.{◌≡◌, ℕ, List, take, Ok, Err}
+use Rattle.std.specs.Prelude.{◌≡◌, ℕ, List, Ok, Err}
 use Rattle.refusal.specs.declared.Refusal.TheVariants.{Bare}
 use Rattle.net.specs.Lowest.{lowest_in}
-use Rattle.net.specs.Nets.{PetriNet, drawn}
+use Rattle.net.specs.Nets.{PetriNet}
 use Rattle.refusal.specs.Outcomes.{Outcome, refuse_at}
 use Rattle.cover.specs.Bare.{bare_places}
 use Rattle.cover.specs.Sheets.{sheet_net, sheet_strands}
@@ -14,10 +14,10 @@ use Rattle.cover.specs.declared.certified.Certified.{Certified}
 use Rattle.cover.specs.declared.sheet.Sheet.{Sheet}
 
 abbrev pub certified_net : Certified → PetriNet
-certified_net c = drawn c.net
+certified_net c = sheet_net c.sheet
 
 abbrev pub certified_strands : Certified → List ℕ
-certified_strands c = take c.count c.strands
+certified_strands c = sheet_strands c.sheet
 
 abbrev pub certify_outcome : PetriNet → List ℕ → Outcome
 certify_outcome n ss = refuse_at (lowest_in (bare_places n ss)) Bare (Ok tt)

@@ -1,17 +1,12 @@
-ghost use Rattle.std.specs.Prelude.{◌≡◌, ◌≤◌, take};
-ghost use Rattle.net.specs.Nets.{drawn};
-ghost use Rattle.cover.specs.Checks.{Checked};
+ghost use Rattle.std.specs.Prelude.{◌≡◌};
 ghost use Rattle.cover.specs.Bare.{bare_places};
+ghost use Rattle.cover.specs.Sheets.{sheet_net, sheet_strands};
 
-use net::Net;
+use crate::sheet::Sheet;
 
-// A net with a cover: the first `count` of `strands`, which leave no place bare.
+// A net with a cover: a sheet whose strands leave no place bare.
 #[derive(Drop)]
 pub struct Certified {
-    pub(crate) net: Net,
-    pub(crate) strands: [u64; 64],
-    pub(crate) count: u8,
-    ghost numbered: { count ≤ 64 },
-    ghost checked: { Checked (drawn net) (take count strands) },
-    ghost covered: { bare_places (drawn net) (take count strands) ≡ 0 },
+    pub(crate) sheet: Sheet,
+    ghost covered: { bare_places (sheet_net sheet) (sheet_strands sheet) ≡ 0 },
 }

@@ -19,9 +19,7 @@ impl Certified {
         ensures empty { certified_strands result ≡ [] }
     {
         Certified {
-            net: Net::new(),
-            strands: [0; 64],
-            count: 0,
+            sheet: Sheet::new(Net::new()),
         }
     }
 
@@ -35,17 +33,7 @@ impl Certified {
         match lowest(sheet.bare) {
             Some(place) => Err(Refusal::Bare { place }),
             None => {
-                let Sheet {
-                    net,
-                    strands,
-                    count,
-                    bare: _,
-                } = sheet;
-                *self = Certified {
-                    net,
-                    strands,
-                    count,
-                };
+                *self = Certified { sheet };
                 Ok(())
             }
         }

@@ -30,12 +30,7 @@ fn even_and_thin(net: &Net, set: u64, transition: u8) -> bool
 fn lowest_failure(net: &Net, set: u64) -> Option<u8>
     ensures { result ≡ lowest (drawn net.now).transitions (λ t. not (even_and_thin_at (drawn net.now) set t)) }
 {
-    for transition in 0..net.transitions() {
-        if !even_and_thin(net, set, transition) {
-            return Some(transition);
-        }
-    }
-    None
+    (0..net.transitions()).find(|t| !even_and_thin(net, set, *t))
 }
 
 // Tells whether the set is a strand of the net, or the first reason why it is not.

@@ -7,6 +7,7 @@ ghost use Rattle.cover.specs.Sheets.{sheet_net, sheet_strands, Proposed};
 
 use crate::checking::check;
 use crate::sheet::Sheet;
+use arrayvec::ArrayVec;
 use net::{Net, below};
 use refusal::Refusal;
 
@@ -19,8 +20,7 @@ impl Sheet {
         let bare = below(net.places());
         Sheet {
             net,
-            strands: [0; 64],
-            count: 0,
+            strands: ArrayVec::new(),
             bare,
         }
     }
@@ -36,8 +36,7 @@ impl Sheet {
         if fresh == 0 {
             return Err(Refusal::NoBarePlace);
         }
-        self.strands[self.count as usize] = set;
-        self.count += 1;
+        self.strands.push(set);
         self.bare ^= fresh;
         Ok(())
     }

@@ -17,24 +17,20 @@ impl Certified {
         ensures safe { Safe (drawn result.now) }
         ensures free { ContactFree (drawn result.now) }
     {
-        &self.net
+        self.sheet.net()
     }
 
     // How many strands cover the net.
     pub fn count(&self) -> u8
         ensures { result ≡ length (certified_strands self.now) }
     {
-        self.count
+        self.sheet.count()
     }
 
     // Strand `k`, numbered from 0 in the order accepted, if there are so many.
     pub fn strand(&self, k: u8) -> Option<u64>
         ensures { result ≡ slice_get (certified_strands self.now) k }
     {
-        if k < self.count {
-            Some(self.strands[k as usize])
-        } else {
-            None
-        }
+        self.sheet.strand(k)
     }
 }

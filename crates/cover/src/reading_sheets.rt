@@ -20,18 +20,14 @@ impl Sheet {
     pub fn count(&self) -> u8
         ensures { result ≡ length (sheet_strands self.now) }
     {
-        self.count
+        self.strands.len() as u8
     }
 
     // Strand `k`, numbered from 0 in the order accepted, if there are so many.
     pub fn strand(&self, k: u8) -> Option<u64>
         ensures { result ≡ slice_get (sheet_strands self.now) k }
     {
-        if k < self.count {
-            Some(self.strands[k as usize])
-        } else {
-            None
-        }
+        self.strands.get(k as usize).copied()
     }
 
     // The set of the bare places.

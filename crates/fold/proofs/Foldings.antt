@@ -1,5 +1,9 @@
 -- Fusions one after another: what every net keeps, the room for steps, covers and strands.
-use Rattle.std.proofs.Common.{◌≡◌, ℕ, zero, suc, ◌+◌, ◌<◌, ◌≤◌, true, false, ◌⊎◌, ◌↔◌, List, [], ◌∷◌, ◌++◌, length, get_or, take, is_some, Some, None, Option, sym, refl, ap, ◌∙◌, subst, ap₂, arith, take-suc}
+use Rattle.std.proofs.Common.{◌≡◌, ℕ, zero, suc, ◌+◌, ◌<◌, ◌≤◌, true, false, ◌⊎◌, ◌↔◌, List, [], ◌∷◌, ◌++◌, length, get_or, take, reverse, is_some, Some, None, Option, sym, refl, ap, ◌∙◌, subst, ap₂, arith, take-suc}
+use Rattle.std.specs.List.{fold}
+use Rattle.std.proofs.Math.Seq.{take-length}
+use Rattle.std.proofs.lemmas.List.{reverse-append}
+use Rattle.std.proofs.lemmas.List.Sums.{fold-append}
 use Rattle.std.proofs.lemmas.Bool.{both_ways}
 use Rattle.net.specs.Nets.{PetriNet, Kept}
 use Rattle.net.specs.Strands.{Strand, HasCover}
@@ -48,6 +52,14 @@ unfolded_then : (steps steps' : List Step) (s : ℕ) → unfolded (steps ++ step
 unfolded_then [] steps' s = refl
 unfolded_then (step ∷ steps) steps' s = ap (put_back step.place step.set) (unfolded_then steps steps' s)
 
+-- the steps from the last to the first, one by one
+pub unfolded_reverse : (steps : List Step) (s : ℕ) → fold (λ t (step : Step). put_back step.place step.set t) s (reverse steps) ≡ unfolded steps s
+unfolded_reverse [] s = refl
+unfolded_reverse (step ∷ steps) s =
+    ap (fold (λ t (x : Step). put_back x.place x.set t) s) (reverse-append (step ∷ []) steps)
+    ∙ fold-append (λ t (x : Step). put_back x.place x.set t) s (reverse steps) (step ∷ [])
+    ∙ ap (put_back step.place step.set) (unfolded_reverse steps s)
+
 pub unfolded_more : (steps : List Step) (k : ℕ) (none : Step) (s : ℕ) → k < length steps
     → unfolded (take (suc k) steps) s ≡ unfolded (take k steps) (put_back (get_or steps k none).place (get_or steps k none).set s)
 unfolded_more steps k none s lt = ap (λ l. unfolded l s) (take-suc steps k none lt) ∙ unfolded_then (take k steps) (get_or steps k none ∷ []) s
@@ -79,11 +91,15 @@ module _ (n : PetriNet) (kept : Kept n) (few : n.places ≤ 64) where
       let falls = step_busy (folding n k) (folding_kept k).0 (folding_few k) (fusion_of (folding n k)) refl (all k (omega arith)) in
       omega arith
 
-  -- a piece of the folded net, with the noted places put back, is a piece of the net
-  pub folding_back : (steps : List Step) (count : ℕ) → count ≤ length steps → Noted n steps count → (k : ℕ) → k ≤ count → (s : ℕ) → Piece (folding n k) s → Piece n (unfolded (take k steps) s)
-  folding_back steps count long all zero le s piece = piece
-  folding_back steps count long all (suc k) le s piece =
+  -- a piece of the folded net, with the noted places of the first steps put back, is a piece of the net
+  first_back : (steps : List Step) → Noted n steps (length steps) → (k : ℕ) → k ≤ length steps → (s : ℕ) → Piece (folding n k) s → Piece n (unfolded (take k steps) s)
+  first_back steps all zero le s piece = piece
+  first_back steps all (suc k) le s piece =
       let (is, place, set) = all k (omega arith) in
       let back = step_back (folding n k) (folding_kept k).0 (folding_few k) (fusion_of (folding n k)) refl is s piece in
-      let rest = folding_back steps count long all k (omega arith) _ back in
+      let rest = first_back steps all k (omega arith) _ back in
       subst (Piece n) (ap (unfolded (take k steps)) (ap₂ (λ p t. put_back p t s) (sym place) (sym set)) ∙ sym (unfolded_more steps k nothing_noted s (omega arith))) rest
+
+  -- and with those of all steps
+  pub folding_back : (steps : List Step) → Noted n steps (length steps) → (s : ℕ) → Piece (folding n (length steps)) s → Piece n (unfolded steps s)
+  folding_back steps all s piece = subst (λ l. Piece n (unfolded l s)) (take-length steps) (first_back steps all (length steps) (omega arith) s piece)

@@ -13,4 +13,3 @@ pub mod Fused
 pub mod Rooms
 pub mod Foldings
 pub mod Facts
-pub mod Numbered

@@ -5,7 +5,7 @@
 --   Fused             one fusion was made and noted; or none applies, and nothing changed
 --   unfold_outcome    refused for a place that the net has not; else the set with the noted places put back
 --   Unfolds           a strand of the folded net comes out as a strand of the net that it was copied from, or as the empty set
-use Rattle.std.specs.Prelude.{◌≡◌, ℕ, ◌^◌, cond, ◌⊎◌, List, [], ◌∷◌, ◌++◌, take, Some, None, Ok, Err, Option, Result, nat_le}
+use Rattle.std.specs.Prelude.{◌≡◌, ℕ, ◌^◌, cond, ◌⊎◌, List, [], ◌∷◌, ◌++◌, Some, None, Ok, Err, Option, Result, nat_le}
 use Rattle.refusal.specs.declared.Refusal.{Refusal}
 use Rattle.refusal.specs.declared.Refusal.TheVariants.{PlaceOutside}
 use Rattle.net.specs.Nets.{PetriNet, drawn}
@@ -22,7 +22,7 @@ abbrev pub folded_net : Folded → PetriNet
 folded_net f = drawn f.folded
 
 abbrev pub folded_steps : Folded → List Step
-folded_steps f = take f.count f.steps
+folded_steps f = f.steps.items
 
 abbrev pub Fused : Folded → Option Fusion → Folded → Type 0
 Fused old (Some fusion) new =

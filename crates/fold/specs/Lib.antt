@@ -1,3 +1,4 @@
+pub mod Notes
 pub mod Fusions
 pub mod Steps
 pub mod Foldings

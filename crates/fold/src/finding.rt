@@ -8,15 +8,7 @@ ghost use Rattle.fold.specs.Steps.{fusion_of};
 
 use crate::fusion::Fusion;
 use crate::side::Side;
-use net::Net;
-
-// Whether place `place` is in the set.
-pub(crate) fn in_set(set: u64, place: u8) -> bool
-    requires { place < 64 }
-    ensures { result ≡ has set place }
-{
-    (set >> place) % 2 == 1
-}
+use net::{Net, has};
 
 // The places that the transition takes or gives.
 fn touched(net: &Net, transition: u8) -> u64
@@ -81,12 +73,11 @@ fn set_on(net: &Net, side: Side, transition: u8) -> u64
 
 // The transition that has the place on that side, if exactly one does.
 pub(crate) fn only_one(net: &Net, side: Side, place: u8) -> Option<u8>
-    requires { place < 64 }
     ensures { result ≡ sole_on (drawn net.now) side place }
 {
     let mut found = None;
     for t in 0..net.transitions() {
-        if in_set(set_on(net, side, t), place) {
+        if has(set_on(net, side, t), place) {
             if found.is_some() {
                 return None;
             }
@@ -101,7 +92,7 @@ fn joins_two(net: &Net, place: u8) -> bool
     requires { place < 64 }
     ensures { result ≡ transition_fusible (drawn net.now) place }
 {
-    if in_set(net.marks(), place) {
+    if has(net.marks(), place) {
         return false;
     }
     let Some(u) = only_one(net, Side::Given, place) else {
@@ -117,23 +108,14 @@ fn joins_two(net: &Net, place: u8) -> bool
 fn fusible_place(net: &Net) -> Option<u8>
     ensures { result ≡ lowest (drawn net.now).places (transition_fusible (drawn net.now)) }
 {
-    for place in 0..net.places() {
-        if joins_two(net, place) {
-            return Some(place);
-        }
-    }
-    None
+    (0..net.places()).find(|place| joins_two(net, *place))
 }
 
 // The fusion that comes next, if one applies: place fusion goes first.
 pub(crate) fn next_fusion(net: &Net) -> Option<Fusion>
     ensures { result ≡ fusion_of (drawn net.now) }
 {
-    match fusible_transition(net) {
-        Some(transition) => Some(Fusion::Places { transition }),
-        None => match fusible_place(net) {
-            Some(place) => Some(Fusion::Transitions { place }),
-            None => None,
-        },
-    }
+    fusible_transition(net)
+        .map(|transition| Fusion::Places { transition })
+        .or_else(|| fusible_place(net).map(|place| Fusion::Transitions { place }))
 }

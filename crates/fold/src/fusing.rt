@@ -11,6 +11,7 @@ use crate::fusion::Fusion;
 use crate::replacing::replace;
 use crate::side::Side;
 use crate::step::Step;
+use arrayvec::ArrayVec;
 use net::{Net, lowest};
 
 // The transition that loses its arcs by the fusion, and what the fusion notes.
@@ -40,12 +41,10 @@ impl Folded {
         ensures folded { folded_net result ≡ drawn net.now }
         ensures empty { folded_steps result ≡ [] }
     {
-        let none = [Step { place: 0, set: 0 }; 64];
         Folded {
             original: net.copy(),
             folded: net.copy(),
-            steps: none,
-            count: 0,
+            steps: ArrayVec::new(),
         }
     }
 
@@ -60,8 +59,7 @@ impl Folded {
         };
         let (transition, step) = plan(&self.folded, fusion);
         self.folded = replace(&self.folded, transition, step);
-        self.steps[self.count as usize] = step;
-        self.count += 1;
+        self.steps.push(step);
         Some(fusion)
     }
 }

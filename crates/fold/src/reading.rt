@@ -29,17 +29,13 @@ impl Folded {
     pub fn count(&self) -> u8
         ensures { result ≡ length (folded_steps self.now) }
     {
-        self.count
+        self.steps.len() as u8
     }
 
     // What fusion `k` noted, numbered from 0 in the order made, if there are so many.
     pub fn step(&self, k: u8) -> Option<Step>
         ensures { result ≡ slice_get (folded_steps self.now) k }
     {
-        if k < self.count {
-            Some(self.steps[k as usize])
-        } else {
-            None
-        }
+        self.steps.get(k as usize).copied()
     }
 }

@@ -1,19 +1,17 @@
 // The net after a fusion: a set of places stands for a place, and a transition loses its arcs.
-ghost use Rattle.std.specs.Prelude.{◌≡◌, ◌<◌, Ok};
+ghost use Rattle.std.specs.Prelude.{◌≡◌, Ok};
 ghost use Rattle.net.specs.Drawings.{with_arcs, arcs_outcome};
 ghost use Rattle.net.specs.Nets.{drawn, Kept};
 ghost use Rattle.fold.specs.Fusions.{swapped, replaced};
 
-use crate::finding::in_set;
 use crate::step::Step;
-use net::Net;
+use net::{Net, has};
 
 // The set with the noted places in place of the noted place, where that is in it.
 fn swap(set: u64, step: Step) -> u64
-    requires { step.place < 64 }
     ensures { result ≡ swapped step.place step.set set }
 {
-    if in_set(set, step.place) {
+    if has(set, step.place) {
         (set ^ (set & (1 << step.place))) | step.set
     } else {
         set
@@ -22,7 +20,6 @@ fn swap(set: u64, step: Step) -> u64
 
 // The marks, where a mark on the noted place moves to the noted places.
 fn moved_marks(net: &Net, step: Step) -> u64
-    requires { step.place < 64 }
     ensures { result ≡ swapped step.place step.set (drawn net.now).marks }
 {
     swap(net.marks(), step)
@@ -38,8 +35,7 @@ fn give(net: &mut Net, transition: u8, taken: u64, given: u64)
 
 // The net with the noted places in place of the noted place in every set, and without the arcs of the transition.
 pub(crate) fn replace(net: &Net, transition: u8, step: Step) -> Net
-    requires below { step.place < 64 }
-    requires kept { Kept (replaced (drawn net.now) transition step.place step.set) }
+    requires { Kept (replaced (drawn net.now) transition step.place step.set) }
     ensures { drawn result ≡ replaced (drawn net.now) transition step.place step.set }
 {
     let mut after = Net::new();

@@ -1,7 +1,7 @@
 // Unfolding a set of places of the folded net.
 ghost use Rattle.std.specs.Prelude.{◌≡◌, ◌^◌, ◌<◌, IfOk, Decides};
 ghost use Rattle.fold.specs.Foldings.{folded_net, folded_steps, unfold_outcome, Unfolds};
-ghost use Rattle.fold.specs.Steps.{put_back, undo};
+ghost use Rattle.fold.specs.Steps.{put_back};
 
 use crate::folded::Folded;
 use crate::step::Step;
@@ -10,7 +10,6 @@ use refusal::Refusal;
 
 // The set with the noted place in it where it meets the noted set, and without that place otherwise.
 fn restored(set: u64, step: Step) -> u64
-    requires { step.place < 64 }
     ensures { result ≡ put_back step.place step.set set }
 {
     let place = 1 << step.place;
@@ -29,14 +28,6 @@ impl Folded {
         within(set, self.folded.places())
     }
 
-    // The set with the noted place of step `k` put back.
-    fn undone(&self, set: u64, k: u8) -> u64
-        requires { k < self.now.count }
-        ensures { result ≡ undo self.now.steps k set }
-    {
-        restored(set, self.steps[k as usize])
-    }
-
     // The set with the noted place of each step put back, the last step first. A strand comes out as a strand of the original net, or empty.
     pub fn unfold(&self, set: u64) -> Result<u64, Refusal>
         ensures answer { result ≡ unfold_outcome (folded_net self.now) (folded_steps self.now) set }
@@ -45,10 +36,11 @@ impl Folded {
         if !self.has_places(set) {
             return Err(Refusal::PlaceOutside);
         }
-        let mut unfolded = set;
-        for k in (0..self.count).rev() {
-            unfolded = self.undone(unfolded, k);
-        }
-        Ok(unfolded)
+        Ok(
+            self.steps
+                .iter()
+                .rev()
+                .fold(set, |set, step| restored(set, *step)),
+        )
     }
 }

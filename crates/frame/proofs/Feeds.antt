@@ -2,11 +2,7 @@
 use Rattle.std.proofs.Common.{◌≡◌, ℕ, zero, suc, ◌+◌, ◌-◌, ◌<◌, eqb, List, [], ◌∷◌, length, get_or, take, drop, sym, ap, ◌∙◌, subst, add-one, arith}
 use Rattle.std.proofs.lemmas.List.{take-append-drop, length-take-le, get_or-take, take_all, drop_all}
 use Rattle.std.proofs.lemmas.Bool.{eq-eqb, ne_eqb, cond-true, cond-false}
-use Rattle.frame.specs.Cuts.{longer, lines_of, Cut}
-
--- no line feed stands below i
-abbrev pub FreeBelow : ℕ → List ℕ → Type 0
-FreeBelow i cs = (k : ℕ) → k < i → get_or cs k 0 ≡ 10 → ⊥
+use Rattle.frame.specs.Cuts.{longer, lines_of, FreeBelow, Cut}
 
 tail_free : (i c : ℕ) (cs : List ℕ) → FreeBelow (suc i) (c ∷ cs) → FreeBelow i cs
 tail_free i c cs free k lt = free (suc k) (omega arith)
@@ -50,6 +46,3 @@ cut_at_end cs n is free =
       feed_between = λ h. absurd (omega (arith, ap length none));
       first = λ h. one_line cs h free ∙ ap (λ l. l ∷ []) (sym all) ∙ ap (λ l. take n cs ∷ lines_of l) (sym none);
     }
-
-pub same_cut : (cs line line' rest rest' : List ℕ) → line' ≡ line → rest' ≡ rest → Cut cs line rest → Cut cs line' rest'
-same_cut cs line line' rest rest' e f cut = subst (λ l. Cut cs l rest') (sym e) (subst (λ l. Cut cs line l) (sym f) cut)

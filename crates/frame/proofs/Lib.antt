@@ -1,4 +1,3 @@
-pub mod Hex
 pub mod Readings
 pub mod Rounds
 pub mod Again

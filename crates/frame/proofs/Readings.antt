@@ -1,7 +1,8 @@
 -- The faults of a line, one after another.
-use Rattle.std.proofs.Common.{◌≡◌, ℕ, ◌+◌, ◌-◌, ◌*◌, ◌/◌, ◌%◌, ◌≤◌, Bool, true, not, ◌||◌, eqb, ltb, List, [], ◌∷◌, length, get_or, take, drop, Ok, Err, sum, Result, sym, refl, ap, ◌∙◌, ap₂, arith}
-use Rattle.std.proofs.lemmas.List.{take_rest, length-drop, length-take-le}
-use Rattle.std.proofs.lemmas.Bool.{ne_eqb, eq-eqb, eqb-false, le-ltb, not-false}
+use Rattle.std.proofs.Common.{◌≡◌, ℕ, ◌-◌, ◌/◌, ◌%◌, ◌<◌, ◌≤◌, Bool, true, not, ◌||◌, eqb, ltb, List, [], ◌∷◌, length, take, drop, Ok, Err, sum, Result, sym, refl, ap, ◌∙◌, ap₂, arith}
+use Rattle.std.proofs.lemmas.List.{length-drop, length-take-le}
+use Rattle.std.proofs.lemmas.Bool.{ne_eqb, eq-eqb, eqb-false, le-ltb, lt-ltb, not-false}
+use Rattle.std.proofs.Math.Bool.{or-true}
 use Rattle.refusal.specs.declared.Refusal.{Refusal}
 use Rattle.refusal.specs.declared.Refusal.TheVariants.{Foreign, OddOrShort, WrongCheck}
 use Rattle.refusal.specs.Outcomes.{Outcome, refuse_if, Tells}
@@ -10,7 +11,6 @@ use Rattle.frame.specs.Digits.{all_digits, bytes_of}
 use Rattle.frame.specs.Lines.{kind_in, check_kind, check_digits}
 use Rattle.frame.specs.declared.frames.Frame.{Frame}
 use Rattle.frame.specs.Frames.{kind_of, digits_of, place_of, DigitsRead}
-use Rattle.frame.proofs.Hex.{Front, bytes_at_front}
 
 -- digits, an even number of them and at least four
 abbrev pub Paired : List ℕ → Type 0
@@ -37,13 +37,15 @@ module _ (ds : List ℕ) (paired : Paired ds) where
   pub right_check : sum (bytes_of ds) % 256 ≡ 0 → check_digits ds ≡ kind_checked
   right_check e = comes_to_check ∙ refuse_passed wrong WrongCheck kind_checked (ap not (eq-eqb _ 0 e))
 
+pub too_few : (ds : List ℕ) → all_digits ds ≡ true → length ds < 4 → check_digits ds ≡ Err OddOrShort
+too_few ds digits few =
+    refuse_passed (not (all_digits ds)) Foreign _ (ap not digits)
+    ∙ refuse_applies _ OddOrShort _ (ap (λ b. eqb (length ds % 2) 1 || b) (lt-ltb (length ds) 4 few) ∙ or-true (eqb (length ds % 2) 1))
+
 pub length_bytes : (ds : List ℕ) → length (bytes_of ds) ≡ length ds / 2
 length_bytes [] = refl
 length_bytes (a ∷ []) = refl
 length_bytes (a ∷ (b ∷ cs)) = let h = length_bytes cs in omega arith
-
-pub kind_at_front : (ds : List ℕ) (high low : ℕ) → Front ds high low → kind_in ds ≡ high * 16 + low
-kind_at_front ds high low front = ap (λ l. get_or l 0 0) (bytes_at_front ds high low front)
 
 -- what a sum over digits says of them
 pub sum_passes : (ds : List ℕ) → refuse_if (not (all_digits ds)) Foreign (refuse_if (eqb (length ds % 2) 1) OddOrShort (Ok tt)) ≡ Ok tt → (all_digits ds ≡ true) × (length ds % 2 ≡ 0)
@@ -53,21 +55,14 @@ sum_passes ds none =
     let ne : length ds % 2 ≡ 1 → ⊥ = eqb-false _ 1 even in
     (not-false (all_digits ds) digits, omega arith)
 
--- the payload lies between two digits and two digits
-pub middle : (ds : List ℕ) → take (length (take (length ds - 2) (drop 2 ds)) - 2) (take (length ds - 2) (drop 2 ds)) ≡ take (length ds - 4) (drop 2 ds)
-middle ds =
-    let shorter : length (drop 2 ds) - 2 ≡ length ds - 4 = omega (arith, length-drop 2 ds) in
-    ap (λ l. take (length l - 2) l) (take_rest ds 2) ∙ ap (λ n. take n (drop 2 ds)) shorter
-
 -- what a kind and a payload are taken for is what the digits are read as
-pub reads_digits : (ds payload : List ℕ) (place high low : ℕ) (r : Result Frame Refusal) → Paired ds → sum (bytes_of ds) % 256 ≡ 0 → Front ds high low → payload ≡ take (length ds - 4) (drop 2 ds)
-    → Tells (check_kind (high * 16 + low) (length payload / 2) (Ok tt)) r (λ f. (kind_of f ≡ high * 16 + low) × (digits_of f ≡ payload) × (place_of f ≡ place)) (Unit {0})
+pub reads_digits : (ds payload : List ℕ) (place kind : ℕ) (r : Result Frame Refusal) → Paired ds → sum (bytes_of ds) % 256 ≡ 0 → kind ≡ kind_in ds → payload ≡ take (length ds - 4) (drop 2 ds)
+    → Tells (check_kind kind (length payload / 2) (Ok tt)) r (λ f. (kind_of f ≡ kind) × (digits_of f ≡ payload) × (place_of f ≡ place)) (Unit {0})
     → DigitsRead ds place r
-reads_digits ds payload place high low r paired right front is told =
-    let kind = kind_at_front ds high low front in
+reads_digits ds payload place kind r paired right first is told =
     let long : length (take (length ds - 4) (drop 2 ds)) ≡ length ds - 4 = length-take-le (length ds - 4) (drop 2 ds) (omega (arith, length-drop 2 ds)) in
     let bytes : length payload / 2 ≡ length (bytes_of ds) - 2 = omega (arith, ap length is, length_bytes ds) in
-    tells_same (check_kind (high * 16 + low) (length payload / 2) (Ok tt)) (check_digits ds) r
-    (λ f. (kind_of f ≡ high * 16 + low) × (digits_of f ≡ payload) × (place_of f ≡ place))
+    tells_same (check_kind kind (length payload / 2) (Ok tt)) (check_digits ds) r
+    (λ f. (kind_of f ≡ kind) × (digits_of f ≡ payload) × (place_of f ≡ place))
     (λ f. (kind_of f ≡ kind_in ds) × (digits_of f ≡ take (length ds - 4) (drop 2 ds)) × (place_of f ≡ place)) (Unit {0})
-    (ap₂ (λ k n. check_kind k n (Ok tt)) (sym kind) bytes ∙ sym (right_check ds paired right)) (λ f (k, d, p). (k ∙ sym kind, d ∙ is, p)) told
+    (ap₂ (λ k n. check_kind k n (Ok tt)) first bytes ∙ sym (right_check ds paired right)) (λ f (k, d, p). (k ∙ first, d ∙ is, p)) told

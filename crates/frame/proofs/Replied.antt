@@ -35,17 +35,7 @@ unfolding set_bytes
 payload_bytes result detail lit r d = (r, (d, (omega arith, (omega arith, (omega arith, (omega arith, (omega arith, (omega arith, (omega arith, (omega arith, tt))))))))))
 
 answer_byte_small : (to : Option Kind) → 128 + numbered to < 256
-answer_byte_small None = omega arith
-answer_byte_small (Some kind.Draw) = omega arith
-answer_byte_small (Some kind.Arcs) = omega arith
-answer_byte_small (Some kind.Propose) = omega arith
-answer_byte_small (Some kind.Search) = omega arith
-answer_byte_small (Some kind.Certify) = omega arith
-answer_byte_small (Some kind.Fire) = omega arith
-answer_byte_small (Some kind.Signal) = omega arith
-answer_byte_small (Some kind.Halt) = omega arith
-answer_byte_small (Some kind.Resume) = omega arith
-answer_byte_small (Some kind.Home) = omega arith
+answer_byte_small to = grind arith
 
 -- an answer has a kind, and ten bytes
 answer_fits : (to : Option Kind) → check_kind (128 + numbered to) 10 (Ok tt) ≡ Ok tt

@@ -1,6 +1,6 @@
 -- What can be wrong with a line that is to be written.
-use Rattle.std.proofs.Common.{◌≡◌, ℕ, ◌<◌, ◌≤◌, Bool, not, ltb, List, length, is_some, Some, Ok, Err, ap, ◌∙◌}
-use Rattle.std.proofs.lemmas.Bool.{eq-eqb, lt-ltb, le-ltb}
+use Rattle.std.proofs.Common.{◌≡◌, ℕ, ◌<◌, Bool, not, ltb, List, length, is_some, Some, Ok, Err, ap, ◌∙◌}
+use Rattle.std.proofs.lemmas.Bool.{eq-eqb, lt-ltb}
 use Rattle.refusal.specs.declared.Refusal.TheVariants.{UnknownKind, WrongLength, MemoryTooShort}
 use Rattle.refusal.specs.Outcomes.{Outcome, refuse_if}
 use Rattle.refusal.proofs.Outcomes.{refuse_applies, refuse_passed}
@@ -24,6 +24,3 @@ module _ (kind : ℕ) (payload : List ℕ) (bytes : ℕ) (known : payload_length
 
     pub too_short : room < length (line_of kind payload) → check_write kind payload room ≡ Err MemoryTooShort
     too_short lt = passed (refuse_if short MemoryTooShort (Ok tt)) ∙ refuse_applies short MemoryTooShort (Ok tt) (lt-ltb room (length (line_of kind payload)) lt)
-
-    pub long_enough : length (line_of kind payload) ≤ room → check_write kind payload room ≡ Ok tt
-    long_enough le = passed (refuse_if short MemoryTooShort (Ok tt)) ∙ refuse_passed short MemoryTooShort (Ok tt) (le-ltb room (length (line_of kind payload)) le)

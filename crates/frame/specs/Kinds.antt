@@ -1,8 +1,9 @@
 -- The kinds of lines.
 --   byte_of         the byte of a kind
 --   kind_from       the kind of a byte, if it has one
+--   name_of         a kind in a word or two, in ASCII
 --   payload_length  how many bytes the payload of a line has by the byte of its kind, if there is such a kind of line
-use Rattle.std.specs.Prelude.{ℕ, cond, ◌&&◌, Some, None, Option, ◌==◌, nat_le}
+use Rattle.std.specs.Prelude.{ℕ, cond, ◌&&◌, Some, None, Option, ◌==◌, nat_le, List, codes}
 use Rattle.frame.specs.declared.kinds.Kind.{Kind}
 use Rattle.frame.specs.declared.kinds.Kind.TheVariants.{Draw, Arcs, Propose, Search, Certify, Fire, Signal, Halt, Resume, Home}
 
@@ -31,6 +32,18 @@ kind_from b =
     (cond (b == 9) (Some Resume)
     (cond (b == 10) (Some Home)
     None)))))))))
+
+abbrev pub name_of : Kind → List ℕ
+name_of Draw = codes "draw"
+name_of Arcs = codes "arcs"
+name_of Propose = codes "propose"
+name_of Search = codes "search"
+name_of Certify = codes "certify and start"
+name_of Fire = codes "fire"
+name_of Signal = codes "signal"
+name_of Halt = codes "halt"
+name_of Resume = codes "resume"
+name_of Home = codes "home"
 
 -- a set is 8 bytes, and any other field is one
 abbrev pub payload_length : ℕ → Option ℕ

@@ -2,6 +2,7 @@ pub mod Digits
 pub mod Kinds
 pub mod Lines
 pub mod Frames
+pub mod Tags
 pub mod Writings
 pub mod Requests
 pub mod Cuts

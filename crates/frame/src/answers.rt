@@ -1,10 +1,10 @@
 // The answer to a line, as a line.
-ghost use Rattle.std.specs.Prelude.{◌≡◌, ◌+◌};
-ghost use Rattle.frame.specs.Frames.{numbered};
+ghost use Rattle.std.specs.Prelude.{◌≡◌};
 ghost use Rattle.frame.specs.Replies.{asked_by, answer_line, ReadsAnswer};
 
 use crate::kinds::Kind;
 use crate::requests::Request;
+use crate::tags::Tag;
 use crate::writes::put_line;
 
 impl Request {
@@ -28,16 +28,6 @@ impl Request {
     }
 }
 
-// The kind byte of the answer to a line of a kind, or of none.
-fn answer_byte(to: Option<Kind>) -> u8
-    ensures { result ≡ 128 + numbered to }
-{
-    match to {
-        None => 128,
-        Some(kind) => 128 + kind.byte(),
-    }
-}
-
 // The answer to a line of a kind, or to one that has none, as a line.
 pub fn answer(to: Option<Kind>, res: u8, detail: u8, lit: u64) -> [u8; 25]
     ensures line { result ≡ answer_line to res detail lit }
@@ -46,6 +36,6 @@ pub fn answer(to: Option<Kind>, res: u8, detail: u8, lit: u64) -> [u8; 25]
     let [a, b, c, d, e, f, g, h] = lit.to_be_bytes();
     let payload = [res, detail, a, b, c, d, e, f, g, h];
     let mut line = [0; 25];
-    put_line(answer_byte(to), &payload, &mut line);
+    put_line(Tag::Answers(to), &payload, &mut line);
     line
 }

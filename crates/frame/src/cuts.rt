@@ -1,14 +1,20 @@
 // Cutting an input into lines.
-ghost use Rattle.frame.specs.Cuts.{Cut};
+ghost use Rattle.std.specs.Prelude.{◌≡◌, ◌<◌, length, slice_index, MatchOption};
+ghost use Rattle.frame.specs.Cuts.{FreeBelow, Cut};
+
+// The place of the first line feed, if there is one.
+fn first_feed(input: &[u8]) -> Option<usize>
+    ensures { MatchOption result (FreeBelow (length input.now) input.now) (λ i. (i < length input.now) × (slice_index input.now i ≡ 10) × FreeBelow i input.now) }
+{
+    input.iter().position(|c| *c == b'\n')
+}
 
 // The first line of an input, with its line feed if it has one, and what comes after it.
 pub fn first_line(input: &[u8]) -> (&[u8], &[u8])
     ensures { Cut input.now result.0.now result.1.now }
 {
-    for (i, c) in input.iter().enumerate() {
-        if *c == b'\n' {
-            return input.split_at(i + 1);
-        }
+    match first_feed(input) {
+        Some(feed) => input.split_at(feed + 1),
+        None => input.split_at(input.len()),
     }
-    input.split_at(input.len())
 }

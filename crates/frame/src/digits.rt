@@ -1,15 +1,33 @@
-// One hexadecimal digit, read and written.
-ghost use Rattle.std.specs.Prelude.{◌≡◌, ◌<◌};
-ghost use Rattle.frame.specs.Digits.{digit_of, char_of};
+// Hexadecimal digits, read and written.
+ghost use Rattle.std.specs.Prelude.{◌≡◌, ◌+◌, ◌*◌, ◌<◌, Some, None, MatchResult};
+ghost use Rattle.refusal.specs.declared.Refusal.TheVariants.{Foreign};
+ghost use Rattle.frame.specs.Digits.{digit_of, number_of, char_of};
 
-pub(crate) fn digit(c: u8) -> Option<u8>
-    ensures { result ≡ digit_of c }
+use refusal::Refusal;
+
+pub(crate) fn digit(c: u8) -> Result<u8, Refusal>
+    ensures { MatchResult result (λ d. digit_of c ≡ Some d) (λ why. (why ≡ Foreign) × (digit_of c ≡ None)) }
 {
     match c {
-        b'0'..=b'9' => Some(c - b'0'),
-        b'A'..=b'F' => Some(c - b'A' + 10),
-        _ => None,
+        b'0'..=b'9' => Ok(c - b'0'),
+        b'A'..=b'F' => Ok(c - b'A' + 10),
+        _ => Err(Refusal::Foreign),
     }
+}
+
+// The number of a digit, as it is known to be.
+fn number(c: u8) -> u8
+    ensures value { result ≡ number_of c }
+    ensures bound { result < 16 }
+{
+    digit(c).unwrap_or(0)
+}
+
+// The byte of two digits, as they are known to be.
+pub(crate) fn byte(high: u8, low: u8) -> u8
+    ensures { result ≡ number_of high * 16 + number_of low }
+{
+    number(high) * 16 + number(low)
 }
 
 pub(crate) fn character(d: u8) -> u8

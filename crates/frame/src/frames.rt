@@ -3,13 +3,13 @@ use crate::kinds::Kind;
 
 // The digits of a payload, two to a byte: a part of the caller's input, with the place of its line there.
 // Only reading a line makes one, so the digits are as many as the kind of their frame asks.
-#[derive(Clone, Copy)]
+#[derive(Clone, Copy, PartialEq, Eq, Debug)]
 pub struct Payload<'a> {
     pub(crate) digits: &'a [u8],
     pub(crate) place: usize,
 }
 
-#[derive(Clone, Copy)]
+#[derive(Clone, Copy, PartialEq, Eq, Debug)]
 pub enum Frame<'a> {
     Draw(Payload<'a>),
     Arcs(Payload<'a>),

@@ -1,9 +1,14 @@
-// The kinds of lines, each with its byte and the length of its payload.
-ghost use Rattle.std.specs.Prelude.{◌≡◌};
-ghost use Rattle.frame.specs.Kinds.{byte_of, kind_from, payload_length};
+// The kinds of lines, each with its byte and its name.
+ghost use Rattle.std.specs.Prelude.{◌≡◌, Some};
+ghost use Rattle.std.specs.Option.{ok_or};
+ghost use Rattle.refusal.specs.declared.Refusal.TheVariants.{UnknownKind};
+ghost use Rattle.frame.specs.Kinds.{byte_of, kind_from, name_of};
 
-// What a line asks for. Its answer has the byte of its kind plus 128.
-#[derive(Clone, Copy)]
+use refusal::Refusal;
+use std::fmt;
+
+// What a line asks for.
+#[derive(Clone, Copy, PartialEq, Eq, Debug)]
 pub enum Kind {
     Draw,
     Arcs,
@@ -17,31 +22,33 @@ pub enum Kind {
     Home,
 }
 
-impl Kind {
-    // The kind that a byte stands for, if it stands for one.
-    pub fn of(byte: u8) -> Option<Kind>
-        ensures { result ≡ kind_from byte }
-    {
+impl TryFrom<u8> for Kind {
+    type Error = Refusal;
+
+    ghost try_from_gives = { λ byte kind. kind ≡ ok_or (kind_from byte) UnknownKind };
+
+    fn try_from(byte: u8) -> Result<Kind, Refusal> {
         match byte {
-            1 => Some(Kind::Draw),
-            2 => Some(Kind::Arcs),
-            3 => Some(Kind::Propose),
-            4 => Some(Kind::Search),
-            5 => Some(Kind::Certify),
-            6 => Some(Kind::Fire),
-            7 => Some(Kind::Signal),
-            8 => Some(Kind::Halt),
-            9 => Some(Kind::Resume),
-            10 => Some(Kind::Home),
-            _ => None,
+            1 => Ok(Kind::Draw),
+            2 => Ok(Kind::Arcs),
+            3 => Ok(Kind::Propose),
+            4 => Ok(Kind::Search),
+            5 => Ok(Kind::Certify),
+            6 => Ok(Kind::Fire),
+            7 => Ok(Kind::Signal),
+            8 => Ok(Kind::Halt),
+            9 => Ok(Kind::Resume),
+            10 => Ok(Kind::Home),
+            _ => Err(Refusal::UnknownKind),
         }
     }
+}
 
-    // The byte that stands for the kind.
-    pub fn byte(self) -> u8
-        ensures { result ≡ byte_of self }
-    {
-        match self {
+impl From<Kind> for u8 {
+    ghost from_gives = { λ kind byte. byte ≡ byte_of kind };
+
+    fn from(kind: Kind) -> u8 {
+        match kind {
             Kind::Draw => 1,
             Kind::Arcs => 2,
             Kind::Propose => 3,
@@ -56,18 +63,30 @@ impl Kind {
     }
 }
 
-// How many bytes the payload of a kind has, if there is such a kind.
-pub fn payload_length(kind: u8) -> Option<usize>
-    ensures { result ≡ payload_length kind }
-{
-    match kind {
-        1 => Some(10),
-        2 => Some(17),
-        3 => Some(8),
-        6 => Some(1),
-        7 => Some(2),
-        4 | 5 | 8 | 9 | 10 => Some(0),
-        128..=138 => Some(10),
-        _ => None,
+impl Kind {
+    // The kind in a word or two.
+    pub fn name(self) -> &'static str
+        ensures { result.now ≡ name_of self }
+    {
+        match self {
+            Kind::Draw => "draw",
+            Kind::Arcs => "arcs",
+            Kind::Propose => "propose",
+            Kind::Search => "search",
+            Kind::Certify => "certify and start",
+            Kind::Fire => "fire",
+            Kind::Signal => "signal",
+            Kind::Halt => "halt",
+            Kind::Resume => "resume",
+            Kind::Home => "home",
+        }
+    }
+}
+
+impl fmt::Display for Kind {
+    ghost output = { λ kind. Some (name_of kind) };
+
+    fn fmt<W: fmt::Write>(&self, f: &mut fmt::Formatter<W>) -> fmt::Result {
+        f.write_str(self.name())
     }
 }

@@ -7,12 +7,14 @@ mod frames;
 mod kinds;
 mod reads;
 mod requests;
+mod tags;
 mod writes;
 
 pub use answers::answer;
 pub use cuts::first_line;
 pub use frames::{Frame, Payload};
-pub use kinds::{Kind, payload_length};
+pub use kinds::Kind;
 pub use reads::read;
 pub use requests::Request;
+pub use tags::payload_length;
 pub use writes::write;

@@ -1,15 +1,16 @@
 // Reading a line.
-ghost use Rattle.std.specs.Prelude.{◌≡◌, ◌/◌, ◌%◌, false, not, [], ◌∷◌, ◌++◌, length, is_some, IfOk, Ok as Fine, sum, MatchOption, ◌==◌};
+ghost use Rattle.std.specs.Prelude.{◌≡◌, ◌/◌, ◌%◌, not, [], ◌∷◌, ◌++◌, length, IfOk, Ok as Fine, sum, ◌==◌};
 ghost use Rattle.refusal.specs.declared.Refusal.TheVariants.{Foreign, OddOrShort};
 ghost use Rattle.refusal.specs.Outcomes.{refuse_if, Tells};
 ghost use Rattle.frame.specs.Digits.{all_digits, bytes_of};
-ghost use Rattle.frame.specs.Kinds.{payload_length};
 ghost use Rattle.frame.specs.Lines.{digits_in, line_of, check_kind};
 ghost use Rattle.frame.specs.Frames.{kind_of, digits_of, place_of, payload_of, Reads};
+ghost use Rattle.frame.specs.Tags.{tag_byte};
 
-use crate::digits::digit;
+use crate::digits::{byte, digit};
 use crate::frames::{Frame, Payload};
-use crate::kinds::{Kind, payload_length};
+use crate::kinds::Kind;
+use crate::tags::Tag;
 use refusal::Refusal;
 
 // A line without a line feed at its end.
@@ -29,44 +30,38 @@ fn sum_of(digits: &[u8]) -> Result<u8, Refusal>
     let mut sum = 0u8;
     let mut rest = digits;
     while let [high, low, more @ ..] = rest {
-        let Some(high) = digit(*high) else {
-            return Err(Refusal::Foreign);
-        };
-        let Some(low) = digit(*low) else {
-            return Err(Refusal::Foreign);
-        };
+        let high = digit(*high)?;
+        let low = digit(*low)?;
         sum = sum.wrapping_add(high * 16 + low);
         rest = more;
     }
     let [last, ..] = rest else {
         return Ok(sum);
     };
-    let Some(_) = digit(*last) else {
-        return Err(Refusal::Foreign);
-    };
+    digit(*last)?;
     Err(Refusal::OddOrShort)
 }
 
-// The frame of a kind byte, if there is such a kind.
-fn of_kind<'a>(kind: u8, payload: Payload<'a>) -> Option<Frame<'a>>
-    ensures { MatchOption result (is_some (payload_length kind) ≡ false) (λ f. (kind_of f ≡ kind) × (digits_of f ≡ payload.entry.digits.now) × (place_of f ≡ payload.entry.place)) }
-{
-    match kind {
-        1 => Some(Frame::Draw(payload)),
-        2 => Some(Frame::Arcs(payload)),
-        3 => Some(Frame::Propose(payload)),
-        4 => Some(Frame::Search(payload)),
-        5 => Some(Frame::Certify(payload)),
-        6 => Some(Frame::Fire(payload)),
-        7 => Some(Frame::Signal(payload)),
-        8 => Some(Frame::Halt(payload)),
-        9 => Some(Frame::Resume(payload)),
-        10 => Some(Frame::Home(payload)),
-        128..=138 => Some(Frame::Answer {
-            to: Kind::of(kind - 128),
-            payload,
-        }),
-        _ => None,
+impl Tag {
+    // The frame of a line with this tag.
+    fn frame<'a>(self, payload: Payload<'a>) -> Frame<'a>
+        ensures kind { kind_of result ≡ tag_byte self }
+        ensures digits { digits_of result ≡ payload.entry.digits.now }
+        ensures place { place_of result ≡ payload.entry.place }
+    {
+        match self {
+            Tag::Asks(Kind::Draw) => Frame::Draw(payload),
+            Tag::Asks(Kind::Arcs) => Frame::Arcs(payload),
+            Tag::Asks(Kind::Propose) => Frame::Propose(payload),
+            Tag::Asks(Kind::Search) => Frame::Search(payload),
+            Tag::Asks(Kind::Certify) => Frame::Certify(payload),
+            Tag::Asks(Kind::Fire) => Frame::Fire(payload),
+            Tag::Asks(Kind::Signal) => Frame::Signal(payload),
+            Tag::Asks(Kind::Halt) => Frame::Halt(payload),
+            Tag::Asks(Kind::Resume) => Frame::Resume(payload),
+            Tag::Asks(Kind::Home) => Frame::Home(payload),
+            Tag::Answers(to) => Frame::Answer { to, payload },
+        }
     }
 }
 
@@ -75,13 +70,11 @@ fn frame_of<'a>(kind: u8, digits: &'a [u8], place: usize) -> Result<Frame<'a>, R
     requires { length digits.now % 2 ≡ 0 }
     ensures { Tells (check_kind kind (length digits.now / 2) (Fine tt)) result (λ f. (kind_of f ≡ kind) × (digits_of f ≡ digits.now) × (place_of f ≡ place)) (Unit {0}) }
 {
-    let Some(frame) = of_kind(kind, Payload { digits, place }) else {
-        return Err(Refusal::UnknownKind);
-    };
-    if payload_length(kind) != Some(digits.len() / 2) {
+    let tag = Tag::try_from(kind)?;
+    if digits.len() / 2 != tag.payload_length() {
         return Err(Refusal::WrongLength);
     }
-    Ok(frame)
+    Ok(tag.frame(Payload { digits, place }))
 }
 
 // The frame of a line that stands at `place` in the input, or what is wrong with the line.
@@ -91,20 +84,11 @@ pub fn read<'a>(line: &'a [u8], place: usize) -> Result<Frame<'a>, Refusal>
 {
     let digits = digits_in(line);
     let sum = sum_of(digits)?;
-    let [high, low, rest @ ..] = digits else {
-        return Err(Refusal::OddOrShort);
-    };
-    let [payload @ .., _, _] = rest else {
+    let [high, low, payload @ .., _, _] = digits else {
         return Err(Refusal::OddOrShort);
     };
     if sum != 0 {
         return Err(Refusal::WrongCheck);
     }
-    let Some(high) = digit(*high) else {
-        return Err(Refusal::Foreign);
-    };
-    let Some(low) = digit(*low) else {
-        return Err(Refusal::Foreign);
-    };
-    frame_of(high * 16 + low, payload, place)
+    frame_of(byte(*high, *low), payload, place)
 }

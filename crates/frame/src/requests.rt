@@ -1,14 +1,17 @@
 // What a frame says, with its fields decoded.
-ghost use Rattle.std.specs.Prelude.{◌≡◌, ◌+◌, ◌*◌, ◌<◌, ◌≤◌, length, slice_index};
-ghost use Rattle.frame.specs.Digits.{number_of, bytes_of};
+ghost use Rattle.std.specs.Prelude.{◌≡◌, ◌<◌, ◌≤◌, length, slice_index};
+ghost use Rattle.frame.specs.Digits.{bytes_of};
 ghost use Rattle.frame.specs.Frames.{kind_of, digits_of, place_of, payload_of};
 ghost use Rattle.frame.specs.Requests.{set_at, request_of};
+ghost use Rattle.frame.specs.Tags.{tag_byte};
 
-use crate::digits::digit;
+use crate::digits::byte;
 use crate::frames::{Frame, Payload};
 use crate::kinds::Kind;
+use crate::tags::Tag;
+use std::array;
 
-#[derive(Clone, Copy)]
+#[derive(Clone, Copy, PartialEq, Eq, Debug)]
 pub enum Request {
     Draw {
         places: u8,
@@ -43,24 +46,16 @@ pub enum Request {
     },
 }
 
-// The number of a digit.
-fn number(c: u8) -> u8
-    ensures value { result ≡ number_of c }
-    ensures bound { result < 16 }
-{
-    digit(c).unwrap_or(0)
-}
-
 impl Payload<'_> {
     // The byte at `at`; 0 where there is none, as never for a field of the payload's kind.
     fn byte(self, at: usize) -> u8
         requires { at < 32 }
         ensures { result ≡ slice_index (bytes_of self.entry.digits.now) at }
     {
-        if self.digits.len() < 2 * at + 2 {
+        let Some(pair) = self.digits.get(2 * at..2 * at + 2) else {
             return 0;
-        }
-        number(self.digits[2 * at]) * 16 + number(self.digits[2 * at + 1])
+        };
+        byte(pair[0], pair[1])
     }
 
     // The set whose 8 bytes begin at `at`, highest first.
@@ -68,39 +63,36 @@ impl Payload<'_> {
         requires { at ≤ 9 }
         ensures { result ≡ set_at (bytes_of self.entry.digits.now) at }
     {
-        let mut set = 0u64;
-        for i in 0..8 {
-            set = set * 256 + u64::from(self.byte(at + i));
-        }
-        set
+        let bytes = array::from_fn(|i| self.byte(at + i));
+        u64::from_be_bytes(bytes)
     }
 }
 
 impl<'a> Frame<'a> {
+    // What the kind byte of the line says.
+    fn tag(self) -> Tag
+        ensures { tag_byte result ≡ kind_of self.entry }
+    {
+        match self {
+            Frame::Draw(_) => Tag::Asks(Kind::Draw),
+            Frame::Arcs(_) => Tag::Asks(Kind::Arcs),
+            Frame::Propose(_) => Tag::Asks(Kind::Propose),
+            Frame::Search(_) => Tag::Asks(Kind::Search),
+            Frame::Certify(_) => Tag::Asks(Kind::Certify),
+            Frame::Fire(_) => Tag::Asks(Kind::Fire),
+            Frame::Signal(_) => Tag::Asks(Kind::Signal),
+            Frame::Halt(_) => Tag::Asks(Kind::Halt),
+            Frame::Resume(_) => Tag::Asks(Kind::Resume),
+            Frame::Home(_) => Tag::Asks(Kind::Home),
+            Frame::Answer { to, .. } => Tag::Answers(to),
+        }
+    }
+
     // The kind byte of the line.
     pub fn kind(self) -> u8
         ensures { result ≡ kind_of self.entry }
     {
-        match self {
-            Frame::Draw(_) => 1,
-            Frame::Arcs(_) => 2,
-            Frame::Propose(_) => 3,
-            Frame::Search(_) => 4,
-            Frame::Certify(_) => 5,
-            Frame::Fire(_) => 6,
-            Frame::Signal(_) => 7,
-            Frame::Halt(_) => 8,
-            Frame::Resume(_) => 9,
-            Frame::Home(_) => 10,
-            Frame::Answer {
-                to: None,
-                payload: _,
-            } => 128,
-            Frame::Answer {
-                to: Some(kind),
-                payload: _,
-            } => 128 + kind.byte(),
-        }
+        u8::from(self.tag())
     }
 
     fn payload(self) -> Payload<'a>
@@ -118,7 +110,7 @@ impl<'a> Frame<'a> {
             Frame::Halt(payload) => payload,
             Frame::Resume(payload) => payload,
             Frame::Home(payload) => payload,
-            Frame::Answer { to: _, payload } => payload,
+            Frame::Answer { payload, .. } => payload,
         }
     }
 

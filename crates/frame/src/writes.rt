@@ -3,10 +3,11 @@ ghost use Rattle.std.specs.Prelude.{◌≡◌, ◌+◌, ◌*◌, ◌/◌, ◌%�
 ghost use Rattle.frame.specs.Digits.{char_of, hex_of};
 ghost use Rattle.frame.specs.Lines.{line_of, check_of};
 ghost use Rattle.frame.specs.Frames.{ReadsAs};
+ghost use Rattle.frame.specs.Tags.{tag_byte};
 ghost use Rattle.frame.specs.Writings.{Writes};
 
 use crate::digits::character;
-use crate::kinds::payload_length;
+use crate::tags::Tag;
 use refusal::Refusal;
 
 // Writes the two digits of a byte at `at`.
@@ -18,12 +19,13 @@ fn put(byte: u8, memory: &mut [u8], at: usize)
     memory[at + 1] = character(byte % 16);
 }
 
-// Writes kind, payload, check byte and a line feed.
-pub(crate) fn put_line(kind: u8, payload: &[u8], memory: &mut [u8])
+// Writes the byte of a tag, payload, check byte and a line feed.
+pub(crate) fn put_line(tag: Tag, payload: &[u8], memory: &mut [u8])
     requires few { length payload.now ≤ 17 }
     requires room { 2 * length payload.now + 5 ≤ length memory.old }
-    ensures { memory.new ≡ line_of kind payload.now ++ drop (2 * length payload.now + 5) memory.old }
+    ensures { memory.new ≡ line_of (tag_byte tag) payload.now ++ drop (2 * length payload.now + 5) memory.old }
 {
+    let kind = u8::from(tag);
     put(kind, memory, 0);
     let mut sum = kind;
     for (i, byte) in payload.iter().enumerate() {
@@ -39,9 +41,8 @@ pub fn write(kind: u8, payload: &[u8], memory: &mut [u8]) -> Result<usize, Refus
     ensures writes { Writes kind payload.now memory.old result memory.new }
     ensures reads_again { IfOk result (λ n. ReadsAs (take n memory.new) kind payload.now) }
 {
-    let Some(bytes) = payload_length(kind) else {
-        return Err(Refusal::UnknownKind);
-    };
+    let tag = Tag::try_from(kind)?;
+    let bytes = tag.payload_length();
     if payload.len() != bytes {
         return Err(Refusal::WrongLength);
     }
@@ -49,6 +50,6 @@ pub fn write(kind: u8, payload: &[u8], memory: &mut [u8]) -> Result<usize, Refus
     if memory.len() < length {
         return Err(Refusal::MemoryTooShort);
     }
-    put_line(kind, payload, memory);
+    put_line(tag, payload, memory);
     Ok(length)
 }

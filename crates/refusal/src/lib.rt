@@ -1,8 +1,12 @@
 // The refusals of the sequencer: each is a case with what it carries, and has a number by which users know it.
 #![tactic(auto)]
 
-ghost use Rattle.std.specs.Prelude.{◌≡◌};
+ghost use Rattle.std.specs.Prelude.{◌≡◌, Some};
 ghost use Rattle.refusal.specs.Numbers.{number_of, detail_of};
+ghost use Rattle.refusal.specs.Reasons.{reason_of};
+
+use std::error::Error;
+use std::fmt;
 
 #[derive(Clone, Copy, PartialEq, Eq, Debug)]
 pub enum Refusal {
@@ -41,6 +45,7 @@ pub enum Refusal {
     MemoryTooShort,
 }
 
+// A refusal has two numbers, of which a conversion to a number would not say which it gives: so each is a method with a name.
 impl Refusal {
     // The number by which users know the refusal, from 1 to 24.
     pub fn number(self) -> u8
@@ -56,12 +61,12 @@ impl Refusal {
             Refusal::EmptySet => 7,
             Refusal::PlaceOutside => 8,
             Refusal::TwoMarks => 9,
-            Refusal::NotEvenOrNotThin { transition: _ } => 10,
+            Refusal::NotEvenOrNotThin { .. } => 10,
             Refusal::NoBarePlace => 11,
-            Refusal::Bare { place: _ } => 12,
-            Refusal::Unlit { place: _ } => 13,
-            Refusal::Occupied { place: _ } => 14,
-            Refusal::Shut { channel: _ } => 15,
+            Refusal::Bare { .. } => 12,
+            Refusal::Unlit { .. } => 13,
+            Refusal::Occupied { .. } => 14,
+            Refusal::Shut { .. } => 15,
             Refusal::NoSuchStrand => 16,
             Refusal::Foreign => 17,
             Refusal::OddOrShort => 18,
@@ -69,7 +74,7 @@ impl Refusal {
             Refusal::UnknownKind => 20,
             Refusal::WrongLength => 21,
             Refusal::OutOfOrder => 22,
-            Refusal::Spent { stage: _ } => 23,
+            Refusal::Spent { .. } => 23,
             Refusal::MemoryTooShort => 24,
         }
     }
@@ -88,4 +93,46 @@ impl Refusal {
             _ => 0,
         }
     }
+
+    // Why the call is refused, in words.
+    pub fn reason(self) -> &'static str
+        ensures { result.now ≡ reason_of self }
+    {
+        match self {
+            Refusal::TooManyPlaces => "more than 64 places",
+            Refusal::TooManyTransitions => "more than 64 transitions",
+            Refusal::MarkOutside => "a mark outside the net",
+            Refusal::NoSuchTransition => "no such transition",
+            Refusal::ArcOutside => "an arc to a place outside the net",
+            Refusal::TakenAndGiven => "a place both taken and given",
+            Refusal::EmptySet => "the empty set",
+            Refusal::PlaceOutside => "a place outside the net",
+            Refusal::TwoMarks => "two marked places",
+            Refusal::NotEvenOrNotThin { .. } => "not even or not thin at a transition",
+            Refusal::NoBarePlace => "no bare place",
+            Refusal::Bare { .. } => "a bare place",
+            Refusal::Unlit { .. } => "an unlit place",
+            Refusal::Occupied { .. } => "an occupied place",
+            Refusal::Shut { .. } => "shut by a channel",
+            Refusal::NoSuchStrand => "no such strand",
+            Refusal::Foreign => "a foreign character",
+            Refusal::OddOrShort => "an odd count of digits or fewer than four",
+            Refusal::WrongCheck => "a wrong check byte",
+            Refusal::UnknownKind => "an unknown kind",
+            Refusal::WrongLength => "a wrong payload length",
+            Refusal::OutOfOrder => "out of order",
+            Refusal::Spent { .. } => "memory spent at a stage",
+            Refusal::MemoryTooShort => "memory too short",
+        }
+    }
 }
+
+impl fmt::Display for Refusal {
+    ghost output = { λ refusal. Some (reason_of refusal) };
+
+    fn fmt<W: fmt::Write>(&self, f: &mut fmt::Formatter<W>) -> fmt::Result {
+        f.write_str(self.reason())
+    }
+}
+
+impl Error for Refusal {}

@@ -11,7 +11,7 @@ returns-then-is_some c =
     let t = c.loop-t.t in
     let test : ℕ → Bool = λ k. has (arcs_on n c.args.side k) c.args.place in
     let there : t < n.transitions = omega arith in
-    let passes : test t ≡ true = sym (c.if-in_set.ensures ∙ ap (λ s. has s c.args.place) c.set_on.ensures) in
+    let passes : test t ≡ true = sym (c.if-has.ensures ∙ ap (λ s. has s c.args.place) c.set_on.ensures) in
     sym (only_twice t n.transitions test c.loop-t.found c.loop-t.invariant (sym c.if-is_some.ensures) there passes)
 
 pub returns : goal.returns

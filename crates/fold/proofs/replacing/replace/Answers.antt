@@ -12,7 +12,7 @@ loop-t-init c =
     let net = c.args.net.now in
     let step = c.args.step in
     let n = replaced (drawn net) c.args.transition step.place step.set in
-    part_none n c.new-after.result c.draw.new.self c.places.result c.transitions.result c.moved_marks.result c.draw.result c.requires.kept net.placed net.counted
+    part_none n c.new-after.result c.draw.new.self c.places.result c.transitions.result c.moved_marks.result c.draw.result c.requires net.placed net.counted
     c.places.ensures c.transitions.ensures c.moved_marks.ensures c.draw.ensures.answer c.draw.ensures.after
 
 pub loop-t-preserved : goal.loop-t-preserved
@@ -38,4 +38,4 @@ loop-t-preserved c =
 pub returns : goal.returns
 returns c =
     let n = replaced (drawn c.args.net.now) c.args.transition c.args.step.place c.args.step.set in
-    part_all n c.loop-t.t (drawn c.loop-t.after) c.requires.kept (omega arith) c.loop-t.invariant
+    part_all n c.loop-t.t (drawn c.loop-t.after) c.requires (omega arith) c.loop-t.invariant

@@ -11,8 +11,8 @@ bytes c = c.to_be_bytes.ensures
 
 held : (c : goal.After-line-2-1) → c.put_line.new.memory ≡ line_of (128 + numbered c.args.to) (payload c.args.res c.args.detail c.args.lit)
 held c =
-    answer_held c.args.to c.args.res c.args.detail c.args.lit c.answer_byte.result (payload_from c.args.res c.args.detail c.to_be_bytes.result) (replicate 25 0) c.put_line.new.memory
-    c.answer_byte.ensures (ap (payload_from c.args.res c.args.detail) (bytes c) ∙ payload_from_set c.args.res c.args.detail c.args.lit) refl c.put_line.ensures
+    answer_held c.args.to c.args.res c.args.detail c.args.lit (128 + numbered c.args.to) (payload_from c.args.res c.args.detail c.to_be_bytes.result) (replicate 25 0) c.put_line.new.memory
+    refl (ap (payload_from c.args.res c.args.detail) (bytes c) ∙ payload_from_set c.args.res c.args.detail c.args.lit) refl c.put_line.ensures
 
 pub returns : goal.returns
 returns c =

@@ -1,11 +1,18 @@
-use Rattle.std.proofs.Common.{◌≡◌, ◌≤◌, length, get_or, Err, sym, ◌∙◌, subst, arith, rules}
-use Rattle.refusal.specs.declared.Refusal.TheVariants.{WrongCheck}
+use Rattle.std.proofs.Common.{◌≡◌, ◌-◌, ◌<◌, ◌≤◌, length, take, drop, Err, sym, ap, ◌∙◌, subst, arith, rules}
+use Rattle.refusal.specs.declared.Refusal.TheVariants.{OddOrShort, WrongCheck}
 use Rattle.frame.specs.Lines.{check_digits}
 use Rattle.frame.specs.Frames.{DigitsRead, Reads}
-use Rattle.frame.proofs.Hex.{Front, digit_small}
+use Rattle.frame.proofs.Fields.{byte_at}
 use Rattle.frame.proofs.Again.{result_writes}
-use Rattle.frame.proofs.Readings.{sum_passes, wrong_check, middle, reads_digits}
+use Rattle.frame.proofs.Readings.{sum_passes, too_few, wrong_check, reads_digits}
 use Rattle.frame.proofs.reads.read.Goals as goal
+
+pub returns-in_default-clause-reads : goal.returns-in_default-clause-reads
+returns-in_default-clause-reads c =
+    let ds = c.digits_in-digits.result.now in
+    let (digits, _) = sum_passes ds c.in_ok-sum.ensures.0 in
+    let few : length ds < 4 = search rules in
+    (subst (λ l. check_digits l ≡ Err OddOrShort) c.digits_in-digits.ensures (too_few ds digits few), tt)
 
 pub returns-then-sum-ne0 : goal.returns-then-sum-ne0
 returns-then-sum-ne0 c =
@@ -18,27 +25,15 @@ returns-then-sum-ne0 c =
       writes_again = tt;
     }
 
-pub overflow_mul-high : goal.overflow_mul-high
-overflow_mul-high c =
-    let ds = c.digits_in-digits.result.now in
-    let high = digit_small (get_or ds 0 0) c.in-Some.high (sym c.digit.ensures ∙ c.in-Some.is) in
-    omega arith
-
-pub overflow_add-high : goal.overflow_add-high
-overflow_add-high c =
-    let ds = c.digits_in-digits.result.now in
-    let high = digit_small (get_or ds 0 0) c.in-Some.high (sym c.digit.ensures ∙ c.in-Some.is) in
-    let low = digit_small (get_or ds 1 0) c.in-Some-digit.low (sym c.digit-2.ensures ∙ c.in-Some-digit.is) in
-    omega arith
-
 pub returns : goal.returns
 returns c =
     let ds = c.digits_in-digits.result.now in
     let (none, is) = c.in_ok-sum.ensures in
     let (digits, even) = sum_passes ds none in
     let long : 4 ≤ length ds = search rules in
-    let front : Front ds c.in-Some.high c.in-Some-digit.low = (omega arith, sym c.digit.ensures ∙ c.in-Some.is, sym c.digit-2.ensures ∙ c.in-Some-digit.is) in
+    let kind = c.byte.ensures ∙ sym (byte_at ds 0 (omega arith)) in
+    let less : length ds - 2 - 2 ≡ length ds - 4 = omega arith in
     let reading : Reads c.args.line.now c.args.place c.frame_of.result =
     subst (λ l. DigitsRead l c.args.place c.frame_of.result) c.digits_in-digits.ensures
-    (reads_digits ds _ c.args.place c.in-Some.high c.in-Some-digit.low c.frame_of.result (digits, even, long) (sym is ∙ c.if-sum-ne0.false) front (middle ds) c.frame_of.ensures) in
+    (reads_digits ds _ c.args.place c.byte.result c.frame_of.result (digits, even, long) (sym is ∙ c.if-sum-ne0.false) kind (ap (λ n. take n (drop 2 ds)) less) c.frame_of.ensures) in
     record { reads = reading; writes_again = result_writes c.args.line.now c.args.place c.frame_of.result reading }

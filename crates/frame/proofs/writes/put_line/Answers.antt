@@ -1,7 +1,7 @@
 use Rattle.std.proofs.Common.{◌≡◌, ◌+◌, ◌*◌, ◌%◌, ◌<◌, [], ◌∷◌, ◌++◌, length, get_or, take, drop, sum, sym, refl, ap, ◌∙◌, ap₂, arith}
 use Rattle.std.proofs.lemmas.List.{take_more, take_all, length-take-le, length_push}
 use Rattle.frame.specs.Digits.{hex_of}
-use Rattle.frame.specs.Lines.{check_of}
+use Rattle.frame.specs.Lines.{check_of, line_of}
 use Rattle.frame.proofs.Puts.{Holds, puts_byte, puts_feed, sums_byte, past_first}
 use Rattle.frame.proofs.writes.put_line.Goals as goal
 
@@ -9,7 +9,7 @@ pub loop-i-init : goal.loop-i-init
 loop-i-init c =
     let m = c.put.new.memory in
     let m0 = c.args.memory.now in
-    let kind = c.args.kind in
+    let kind = c.from-kind.result in
     let room = c.requires.room in
     let first : Holds m (kind ∷ []) 2 m0 = c.put.ensures ∙ puts_byte m0 [] m0 0 kind refl refl (omega arith) in
     let small : kind < 256 = omega arith in
@@ -20,7 +20,7 @@ loop-i-preserved c =
     let i = c.loop-i.i in
     let payload = c.args.payload.now in
     let m0 = c.put.new.memory in
-    let kind = c.args.kind in
+    let kind = c.from-kind.result in
     let room = c.requires.room in
     let bs = kind ∷ take i payload in
     let b = get_or payload i 0 in
@@ -37,7 +37,7 @@ returns c =
     let n = length payload in
     let m1 = c.put.new.memory in
     let m0 = c.args.memory.now in
-    let kind = c.args.kind in
+    let kind = c.from-kind.result in
     let room = c.requires.room in
     let inv = c.loop-i.invariant in
     let bs = kind ∷ payload in
@@ -56,3 +56,4 @@ returns c =
     let past : drop (2 * n + 4 + 1) m1 ≡ drop (2 * n + 5) m0 = ap (λ k. drop k m1) end ∙ past_first m1 m0 kind (2 * n + 3) first ∙ ap (λ k. drop k m0) (omega arith) in
     puts_feed c.put-2.new.memory (bs ++ check ∷ []) m1 (2 * n + 4) put (omega arith) (omega arith)
     ∙ ap₂ (λ x l. (hex_of (bs ++ x ∷ []) ++ 10 ∷ []) ++ l) is past
+    ∙ ap (λ k. line_of k payload ++ drop (2 * n + 5) m0) c.from-kind.ensures

@@ -1,4 +1,4 @@
-use Rattle.std.proofs.Common.{Some, None, refl, arith}
+use Rattle.std.proofs.Common.{Some, None, refl}
 use Rattle.net.proofs.Kept.{net_kept}
 use Rattle.net.proofs.Tokens.{covered_safe, covered_contact_free}
 use Rattle.cover.specs.Sheets.{sheet_net, sheet_strands}
@@ -9,13 +9,7 @@ use Rattle.cover.proofs.certified.Certified.certify.Goals as goal
 pub invariant_of-self : goal.invariant_of-self
 invariant_of-self c =
     let sheet = c.args.sheet in
-    let room = sheet.room in
-    let most = sheet.net.placed in
-    record {
-      numbered = omega arith;
-      checked = sheet.checked;
-      covered = none_lowest (sheet_net sheet) (sheet_strands sheet) sheet.bare sheet.bared most c.in-None.ensures;
-    }
+    record { covered = none_lowest (sheet_net sheet) (sheet_strands sheet) sheet.bare sheet.bared sheet.net.placed c.in-None.ensures }
 
 pub returns-in-Some : goal.returns-in-Some
 returns-in-Some c =

@@ -12,4 +12,4 @@ invariant_of-result c =
     let most = c.args.net.placed in
     let all : c.below-bare.result ≡ 2 ^ c.args.net.places - 1 = all_bare _ _ _ c.below-bare.ensures (omega arith) most in
     let room : size c.below-bare.result ≤ c.args.net.places = subst (λ s. size s ≤ c.args.net.places) (sym all) (room_at_first c.args.net.places) in
-    record { checked = λ k none. absurd (omega arith); bared = all; room = omega arith }
+    rw c.new.ensures (record { checked = λ k none. absurd (omega arith); bared = all; room = omega arith })

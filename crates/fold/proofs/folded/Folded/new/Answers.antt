@@ -1,4 +1,4 @@
-use Rattle.std.proofs.Common.{sym, refl, ◌∙◌, arith}
+use Rattle.std.proofs.Common.{sym, ◌∙◌, arith}
 use Rattle.net.specs.Nets.{drawn}
 use Rattle.fold.proofs.Facts.{same_numbers, same_arcs}
 use Rattle.fold.proofs.folded.Folded.new.Goals as goal
@@ -8,4 +8,4 @@ invariant_of-result c =
     let n = drawn c.copy-2.result in
     let n' = drawn c.copy.result in
     let same = c.copy-2.ensures ∙ sym c.copy.ensures in
-    record { long = refl; numbered = same_numbers n n' same; arced = same_arcs n n' same; noted = λ k lt. absurd (omega arith) }
+    rw c.new.ensures (record { numbered = same_numbers n n' same; arced = same_arcs n n' same; noted = λ k lt. absurd (omega arith) })
