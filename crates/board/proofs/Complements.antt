@@ -1,13 +1,8 @@
--- The complement of a set of k lines, and what is past the last line.
-use Rattle.std.proofs.Common.{◌≡◌, ℕ, zero, suc, ◌-◌, ◌/◌, ◌%◌, ◌^◌, ◌<◌, ◌≤◌, false, not, ◌&&◌, eqb, sym, refl, ap, ◌∙◌, pow-suc, arith}
+-- The complement of a set of k lines.
+use Rattle.std.proofs.Common.{◌≡◌, ℕ, zero, suc, ◌-◌, ◌/◌, ◌%◌, ◌^◌, ◌<◌, not, ◌&&◌, eqb, sym, refl, ap, ◌∙◌, pow-suc, arith}
 use lib.Bits.{and_lt, xor_lt}
 use Rattle.net.specs.Sets.{has, intersection, difference}
 use Rattle.net.proofs.Bits.{has_first, has_next, by_digit, digit_below, has_intersection, has_difference, same_bits}
-use Rattle.net.proofs.Members.{has_out, in_below}
-
--- a set of k lines has no line from k on
-pub has_past : (k s p : ℕ) → s < 2 ^ k → k ≤ p → has s p ≡ false
-has_past k s p fits past = has_out p s (λ i. let lt = in_below k s p fits i in omega arith)
 
 -- the complement has a line where the set has not
 pub has_complement : (k s p : ℕ) → s < 2 ^ k → p < k → has (2 ^ k - 1 - s) p ≡ not (has s p)

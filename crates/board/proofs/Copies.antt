@@ -3,11 +3,12 @@ use Rattle.std.specs.List.{fold, filter, range_with_len}
 use Rattle.std.proofs.Common.{◌≡◌, ℕ, zero, suc, cond, ◌+◌, ◌*◌, ◌%◌, ◌^◌, ◌<◌, ◌≤◌, Bool, true, false, ◌||◌, sym, refl, ap, ◌∙◌, subst, ⊎_elim, arith, pow_mono}
 use lib.Pow.{pow-lt}
 use lib.Bits.{bit_or, or_lt}
+use Rattle.std.proofs.Math.Bool.{or-false, or-true}
 use Rattle.std.proofs.lemmas.Nat.{one_shl}
 use Rattle.std.proofs.lemmas.Bool.{cases_eq, eq-eqb, ne_eqb}
 use Rattle.net.specs.Sets.{has}
+use Rattle.net.proofs.Members.{has_past}
 use Rattle.net.proofs.Bits.{has_union, has_single, same_bits}
-use Rattle.board.proofs.Complements.{has_past}
 use Rattle.board.proofs.Folds.{fold_where}
 
 -- the lines below n are copied, and no others
@@ -17,14 +18,6 @@ pub record Copied (lit n set : ℕ) : Type 0 where
 
 pub copied_none : (lit : ℕ) → Copied lit 0 0
 copied_none lit = record { below = omega arith; same = λ k lt. absurd (omega arith) }
-
-or_false : (b : Bool) → (b || false) ≡ b
-or_false true = refl
-or_false false = refl
-
-or_true : (b : Bool) → (b || true) ≡ true
-or_true true = refl
-or_true false = refl
 
 module _ (lit n set : ℕ) (so : Copied lit n set) where
   pub copied_unlit : has lit n ≡ false → Copied lit (n + 1) set
@@ -41,8 +34,8 @@ module _ (lit n set : ℕ) (so : Copied lit n set) where
       (record {
         below = let le : 2 ^ n < 2 ^ (n + 1) = pow-lt (omega arith) in let lt = so.below in or_lt (n + 1) set (2 ^ n) (omega arith) le;
         same = λ k lt. has_union set (2 ^ n) k ∙ ap (λ b. has set k || b) (has_single n k) ∙ ⊎_elim
-            (λ e. ap (λ b. has set k || b) (eq-eqb n k (sym e)) ∙ or_true (has set k) ∙ sym (ap (has lit) e ∙ on))
-            (λ ne. ap (λ b. has set k || b) (ne_eqb n k (λ e. ne (sym e))) ∙ or_false (has set k) ∙ so.same k (omega arith)) (cases_eq k n);
+            (λ e. ap (λ b. has set k || b) (eq-eqb n k (sym e)) ∙ or-true (has set k) ∙ sym (ap (has lit) e ∙ on))
+            (λ ne. ap (λ b. has set k || b) (ne_eqb n k (λ e. ne (sym e))) ∙ or-false (has set k) ∙ so.same k (omega arith)) (cases_eq k n);
       })
 
 -- a set with one line more

@@ -6,6 +6,7 @@ ghost use Rattle.std.specs.Prelude.{◌≡◌, length};
 use relay::Relay;
 
 // A board of 64 relays, each with its state and its wear.
+// Contracts see the field and not a bare list: a law of `Lines` needs that there are 64.
 #[derive(Clone, Copy)]
 pub struct Relays {
     relays: [Relay; 64],

@@ -25,8 +25,8 @@ module _ {B W : Type 0} (lit : B → ℕ) (closed : B → Option ℕ) (signalled
   run_follows =
       let n = certified_net c in
       let ss = certified_strands c in
-      let kept : Kept n = net_kept c.net in
-      let narrow : n.places ≤ 64 = c.net.placed in
+      let kept : Kept n = net_kept c.sheet.net in
+      let narrow : n.places ≤ 64 = c.sheet.net.placed in
       let cover : HasCover n = (ss, certified_cover c) in
       let begins : Sound n kept narrow cover lit closed signalled add ss weights quiet (started n (closed first)) (going_on first) =
       record { counts = counts_at_start n kept; same = λ p. ap (λ k. one_in k p) (sym laid.lines); shut_same = refl; going_same = refl } in
@@ -44,4 +44,4 @@ module _ {B W : Type 0} (lit : B → ℕ) (closed : B → Option ℕ) (signalled
 
   pub run_weighs : (minus : W → W) → CommutativeMonoid add → Inverts add minus → WeightsFollowTheFires add minus (certified_net c) log (lit ended.board)
   run_weighs minus laws inverts ws =
-      weights_follow add minus laws inverts lit closed signalled quiet (certified_net c) (net_kept c.net) c.net.placed (certified_strands c) weights ws (going_on first) log ended laid.lines chain
+      weights_follow add minus laws inverts lit closed signalled quiet (certified_net c) (net_kept c.sheet.net) c.sheet.net.placed (certified_strands c) weights ws (going_on first) log ended laid.lines chain

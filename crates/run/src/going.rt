@@ -1,15 +1,12 @@
 // A run that is going.
-ghost use Rattle.std.specs.Prelude.{◌≡◌, true};
-ghost use Rattle.std.specs.List.{slice_get};
+ghost use Rattle.std.specs.Prelude.{◌≡◌};
 ghost use Rattle.board.specs.Rules.{Laid};
-ghost use Rattle.cover.specs.Certificates.{certified_net, certified_strands};
-ghost use Rattle.net.specs.Sets.{has};
-ghost use Rattle.run.specs.Firing.{agrees, fire_outcome, station_outcome, Fired};
-ghost use Rattle.run.specs.Runs.{going_lit};
+ghost use Rattle.cover.specs.Certificates.{certified_net};
+ghost use Rattle.run.specs.Firing.{fire_outcome, Fired};
 
-use crate::places::{lowest_with, station_on};
-use crate::runs::{Going, Halted};
-use board::{Board, Lines};
+use crate::places::lowest_with;
+use crate::runs::{Driven, Fires, Going, Halted, Stands};
+use board::Board;
 use cover::Certified;
 use refusal::Refusal;
 
@@ -20,7 +17,11 @@ impl<B: Board> Going<B> {
         ensures held { result.certified ≡ certified }
     {
         board.lay(certified.net().marks());
-        Going { certified, board }
+        Driven {
+            certified,
+            board,
+            state: Fires,
+        }
     }
 
     // Exchanges what the transition takes for what it gives, unless something refuses.
@@ -41,25 +42,8 @@ impl<B: Board> Going<B> {
         if let Some(place) = lowest_with(&self.board, given, true) {
             return Err(Refusal::Occupied { place });
         }
-        match self.board.exchange(taken, given) {
-            Ok(()) => Ok(()),
-            Err(channel) => Err(Refusal::Shut { channel }),
-        }
-    }
-
-    // Hands an event on a channel to the board.
-    pub fn signal(&mut self, channel: u8, event: u8)
-        ensures after { B.Board.signalled self.old.board channel event self.new.board }
-        ensures kept { self.new.certified ≡ self.old.certified }
-    {
-        self.board.signal(channel, event);
-    }
-
-    // The lowest lit place of strand `k`, if any; refused where there is no such strand.
-    pub fn station(&self, k: u8) -> Result<Option<u8>, Refusal>
-        ensures { result ≡ station_outcome (λ p. agrees true (has (B.Lines.lit self.now.board) p)) (slice_get (certified_strands self.now.certified) k) }
-    {
-        station_on(&self.certified, &self.board, k)
+        self.board.exchange(taken, given)?;
+        Ok(())
     }
 
     // The run, standing still.
@@ -67,17 +51,6 @@ impl<B: Board> Going<B> {
         ensures board { result.board ≡ self.board }
         ensures kept { result.certified ≡ self.certified }
     {
-        let Going { certified, board } = self;
-        Halted { certified, board }
-    }
-}
-
-impl<B: Board> Lines for Going<B> {
-    ghost lit = { going_lit B.Lines.lit };
-
-    ghost bounded = { λ run. B.Lines.bounded run.board };
-
-    fn read(&self, line: u8) -> bool {
-        self.board.read(line)
+        self.into_state(Stands)
     }
 }

@@ -2,10 +2,11 @@
 #![tactic(auto)]
 
 mod calls;
+mod driven;
 mod going;
 mod halted;
 mod places;
 mod runs;
 
 pub use calls::{Answer, Call, Entry};
-pub use runs::{Going, Halted, Run};
+pub use runs::{Driven, Fires, Going, Halted, Run, Stands};

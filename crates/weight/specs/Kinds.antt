@@ -20,8 +20,8 @@ opposite x = record { count = (2 ^ 32 - x.count) % 2 ^ 32; fits = mod_below _ _ 
 
 abbrev pub keys : Addition Keys
 keys = record {
-  neutral = record { set = 0 };
-  plus = λ x y. record { set = bit_xor x.set y.set };
+  neutral = 0;
+  plus = λ x y. bit_xor x y;
 }
 
 abbrev pub itself : Keys → Keys

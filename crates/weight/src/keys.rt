@@ -4,24 +4,35 @@ ghost use Rattle.weight.specs.Kinds.{keys, itself};
 ghost use Rattle.weight.specs.KeySets.{keys_monoid, keys_inverts, keys_exact};
 
 use crate::weight::Weight;
+use std::marker::Model;
 
-// A set of up to 64 keys: key n is in it where bit n is 1.
+// A set of up to 64 keys: key n is in it where bit n is 1. Contracts see it as that number.
 #[derive(Clone, Copy, PartialEq, Eq, Debug)]
 pub struct Keys {
     set: u64,
 }
 
+impl Model for Keys {
+    ghost use Rattle.std.specs.Prelude.{ℕ};
+
+    ghost Value = { ℕ };
+
+    ghost view = { λ keys. keys.set };
+
+    ghost inverse = { λ s. record { set = s } };
+}
+
 impl Keys {
     // The keys of a set.
     pub fn new(set: u64) -> Keys
-        ensures { result.set ≡ set }
+        ensures { result ≡ set }
     {
         Keys { set }
     }
 
     // The set of the keys.
     pub fn set(self) -> u64
-        ensures { result ≡ self.set }
+        ensures { result ≡ self }
     {
         self.set
     }
