@@ -6,7 +6,7 @@ ghost use Rattle.report.specs.Texts.{saying_of};
 ghost use Rattle.report.specs.Checks.{is_good, refused_text, finding_of, line_text, closing_text, report_of};
 
 use crate::texts::saying;
-use frame::{Frame, first_line, read};
+use frame::{Frame, Lines, read};
 use refusal::Refusal;
 use std::alloc::{AllocError, Global};
 
@@ -61,20 +61,18 @@ pub fn check(heap: Global, job: &[u8]) -> Result<String, AllocError>
     ensures { IfOk result (λ s. string_bytes s ≡ report_of job.now) }
 {
     let mut report = String::new(heap);
-    let mut rest = job;
     let mut place = 0;
-    let mut number = 0;
     let mut good = 0;
-    while !rest.is_empty() {
-        let (line, more) = first_line(rest);
-        number += 1;
-        if report_line(heap, &mut report, number, place, line)? {
+    let mut bad = 0;
+    for line in Lines::of(job) {
+        if report_line(heap, &mut report, good + bad + 1, place, line)? {
             good += 1;
+        } else {
+            bad += 1;
         }
         place += line.len();
-        rest = more;
     }
-    let closing = closing_text(heap, good, number - good)?;
+    let closing = closing_text(heap, good, bad)?;
     report.push_str(closing.as_str())?;
     Ok(report)
 }
