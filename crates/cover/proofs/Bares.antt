@@ -117,13 +117,6 @@ module _ (n : PetriNet) (ss : List ℕ) (s : ℕ) where
       ap (λ o. and_then o (refuse_if (eqb (intersection (bare_places n ss) s) 0) NoBarePlace (Ok tt))) (strand_passes n s strand)
       ∙ ap (λ b. refuse_if b NoBarePlace (Ok tt)) (ne_eqb (intersection (bare_places n ss) s) 0 (bare_in_new strand p i out))
 
-  -- the answer where the set passed the check, and `bare` holds the bare places
-  pub answer_by_bare : (bare : ℕ) → bare ≡ bare_places n ss → (x : Unit {0}) → Ok x ≡ check_outcome n s
-      → refuse_if (eqb (intersection bare s) 0) NoBarePlace (Ok tt) ≡ propose_outcome n ss s
-  answer_by_bare bare is x passes =
-      ap (λ b. refuse_if (eqb (intersection b s) 0) NoBarePlace (Ok tt)) is
-      ∙ ap (λ o. and_then o (refuse_if (eqb (intersection (bare_places n ss) s) 0) NoBarePlace (Ok tt))) passes
-
   -- an answer to a proposal, as a fact
   pub new_cases : (r : Outcome) → r ≡ propose_outcome n ss s → Accepts r (NewStrand n ss s)
   new_cases (Ok x) e = accepted_new (sym (ap is_ok e))

@@ -1,5 +1,5 @@
 -- A set passes the check exactly where it is a strand.
-use Rattle.std.proofs.Common.{◌≡◌, ℕ, ◌^◌, ◌<◌, ◌≤◌, true, false, not, eqb, ltb, leb, List, get_or, is_ok, None, Ok, Err, Option, sym, ap, ◌∙◌, subst, arith}
+use Rattle.std.proofs.Common.{◌≡◌, ℕ, ◌^◌, ◌<◌, ◌≤◌, true, not, eqb, ltb, leb, List, get_or, is_ok, None, Ok, Err, sym, ap, ◌∙◌, arith}
 use Rattle.std.specs.List.{AllByRecursion}
 use Rattle.std.proofs.ByRecursion.{All-from_get_or}
 use Rattle.std.proofs.lemmas.Bool.{eqb-true, eqb-false, leb-true, leb-false, ltb-false, eq-eqb, ne_eqb, le-leb, lt-leb, le-ltb, and_parts, and_from, not-false, not_from_true, false≢true}
@@ -51,13 +51,6 @@ module _ (n : PetriNet) (s : ℕ) where
       ap (λ b. refuse_if b EmptySet at_places) (ne_eqb s 0 some)
       ∙ ap (λ b. refuse_if b PlaceOutside at_marks) (lt-leb (2 ^ n.places) s within)
       ∙ ap (λ b. refuse_if b TwoMarks at_transitions) (le-ltb 1 (size (intersection n.marks s)) marks)
-
-  -- and the fourth found o, where the number of places was read from the net
-  pub found_at : (places : ℕ) (o : Option ℕ) → places ≡ n.places → (s ≡ 0 → ⊥) → s < 2 ^ places → ltb 1 (size (intersection n.marks s)) ≡ false
-      → o ≡ lowest n.transitions (λ t. not (even_and_thin_at n s t)) → refuse_at o NotEvenOrNotThin (Ok tt) ≡ check_outcome n s
-  found_at places o ps some within one is =
-      ap (λ x. refuse_at x NotEvenOrNotThin (Ok tt)) is
-      ∙ sym (past_the_marks some (subst (λ k. s < 2 ^ k) ps within) (ltb-false 1 (size (intersection n.marks s)) one))
 
   pub strand_passes : Strand n s → check_outcome n s ≡ Ok tt
   strand_passes strand =

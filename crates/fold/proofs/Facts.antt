@@ -5,56 +5,44 @@ use Rattle.std.proofs.Math.Seq.{get_or-append_seam}
 use Rattle.std.proofs.lemmas.Bool.{cases_eq}
 use Rattle.net.specs.Nets.{PetriNet, Kept}
 use Rattle.net.specs.Strands.{Strand, HasCover}
-use Rattle.net.proofs.Drawn.{same_drawn}
 use Rattle.net.proofs.Kept.{net_kept}
 use Rattle.fold.specs.Foldings.{folded_original, folded_net, folded_steps}
 use Rattle.fold.specs.Fusions.{replaced}
-use Rattle.fold.specs.Steps.{fusion_of, Applies, emptied, step_of, net_after, after_fusion, folding, nothing_noted, noted, noted_by, SameNumbers, SameArcs, Noted, unfolded}
+use Rattle.fold.specs.Steps.{fusion_of, Applies, emptied, step_of, net_after, after_fusion, folding, nothing_noted, noted, noted_by, Noted, unfolded}
 use Rattle.fold.specs.declared.folded.Folded.{Folded}
 use Rattle.fold.specs.declared.fusion.Fusion.{Fusion}
 use Rattle.fold.specs.declared.step.Step.{Step}
 use Rattle.fold.proofs.Foldings.{folding_covers, folding_room, folding_back}
-use Rattle.fold.proofs.Fused.{applied_replaces, applied_kept, applied_same}
+use Rattle.fold.proofs.Fused.{fusion_applies, applied_kept, applied_same}
 
 -- how many fusions were made
 abbrev pub made : Folded → ℕ
 made f = length (folded_steps f)
 
--- the folded net is what the fusions make of the original
-pub folded_is : (f : Folded) → folded_net f ≡ folding (folded_original f) (made f)
-folded_is f =
-    same_drawn (folded_net f) (folding (folded_original f) (made f)) f.numbered.0 f.numbered.1 f.numbered.2 (λ t. (f.arced t).0) (λ t. (f.arced t).1)
-
 pub folded_keeps_covers : (f : Folded) → HasCover (folded_net f) ↔ HasCover (folded_original f)
 folded_keeps_covers f =
-    subst (λ n. HasCover n ↔ HasCover (folded_original f)) (sym (folded_is f)) (folding_covers (folded_original f) (net_kept f.original) f.original.placed (made f))
+    subst (λ n. HasCover n ↔ HasCover (folded_original f)) (sym f.fused) (folding_covers (folded_original f) (net_kept f.original) f.original.placed (made f))
 
 -- a strand of the folded net unfolds to a strand of the original, or to nothing
 pub folded_strands_unfold : (f : Folded) (s : ℕ) → Strand (folded_net f) s
     → Strand (folded_original f) (unfolded (folded_steps f) s) ⊎ (unfolded (folded_steps f) s ≡ 0)
 folded_strands_unfold f s strand =
-    folding_back (folded_original f) (net_kept f.original) f.original.placed (folded_steps f) f.noted s (inl (subst (λ n. Strand n s) (folded_is f) strand))
+    folding_back (folded_original f) (net_kept f.original) f.original.placed (folded_steps f) f.noted s (inl (subst (λ n. Strand n s) f.fused strand))
 
 -- ---- one fusion more
 
 module _ (n : PetriNet) (kept : Kept n) (few : n.places ≤ 64) (fusion : Fusion) (can : Applies n fusion) where
-  pub noted_place_below : (step_of n fusion).place < 64
-  noted_place_below = let h = (applied_replaces n kept few fusion can).p_below in omega arith
-
   -- the replacement of a plan is a net, and is the net after the fusion
   module _ (x : ℕ) (step : Step) (xs : x ≡ emptied n fusion) (steps : step ≡ step_of n fusion) where
-    pub plan_below : step.place < 64
-    plan_below = subst (λ p. p.place < 64) (sym steps) noted_place_below
-
-    pub plan_same : replaced n x step.place step.set ≡ net_after n fusion
+    plan_same : replaced n x step.place step.set ≡ net_after n fusion
     plan_same = ap₂ (λ y (s : Step). replaced n y s.place s.set) xs steps ∙ applied_same n kept few fusion can
 
-    pub plan_kept : Kept (replaced n x step.place step.set)
+    plan_kept : Kept (replaced n x step.place step.set)
     plan_kept = subst Kept (sym plan_same) (applied_kept n kept few fusion can)
 
 module _ (f : Folded) (fusion : Fusion) (next : fusion_of (folded_net f) ≡ Some fusion) where
   next_there : is_some (fusion_of (folding (folded_original f) (made f))) ≡ true
-  next_there = ap (λ n. is_some (fusion_of n)) (sym (folded_is f)) ∙ ap is_some next
+  next_there = ap (λ n. is_some (fusion_of n)) (sym f.fused) ∙ ap is_some next
 
   -- a step was made before each step, and one is made now
   each_there : (j : ℕ) → j < suc (made f) → is_some (fusion_of (folding (folded_original f) j)) ≡ true
@@ -70,9 +58,17 @@ module _ (f : Folded) (fusion : Fusion) (next : fusion_of (folded_net f) ≡ Som
       let most = f.original.counted in
       omega arith
 
+  -- the net after a planned replacement is the net after the fusion, and is a net
+  module _ (x : ℕ) (step : Step) (xs : x ≡ emptied (folded_net f) fusion) (steps : step ≡ step_of (folded_net f) fusion) where
+    pub plan_net : (new : PetriNet) → new ≡ replaced (folded_net f) x step.place step.set → new ≡ net_after (folded_net f) fusion
+    plan_net new e = e ∙ plan_same (folded_net f) (net_kept f.folded) f.folded.placed fusion (fusion_applies (folded_net f) fusion next) x step xs steps
+
+    pub plan_net_kept : Kept (replaced (folded_net f) x step.place step.set)
+    plan_net_kept = plan_kept (folded_net f) (net_kept f.folded) f.folded.placed fusion (fusion_applies (folded_net f) fusion next) x step xs steps
+
   pub next_net : (new : PetriNet) → new ≡ net_after (folded_net f) fusion → new ≡ folding (folded_original f) ((made f) + 1)
   next_net new e =
-      e ∙ sym (ap (after_fusion (folded_net f)) next) ∙ ap (λ n. after_fusion n (fusion_of n)) (folded_is f) ∙ ap (folding (folded_original f)) (sym (add-one (made f)))
+      e ∙ sym (ap (after_fusion (folded_net f)) next) ∙ ap (λ n. after_fusion n (fusion_of n)) f.fused ∙ ap (folding (folded_original f)) (sym (add-one (made f)))
 
   pub next_covers : (new : PetriNet) → new ≡ net_after (folded_net f) fusion → HasCover new ↔ HasCover (folded_original f)
   next_covers new e =
@@ -89,10 +85,4 @@ module _ (f : Folded) (fusion : Fusion) (next : fusion_of (folded_net f) ≡ Som
       (cases_eq k (made f))
     where
       note : step ≡ noted (folding (folded_original f) (made f))
-      note = is ∙ sym (ap (noted_by (folded_net f)) next) ∙ ap noted (folded_is f)
-
-pub same_numbers : (n n' : PetriNet) → n ≡ n' → SameNumbers n n'
-same_numbers n n' e = (ap (λ (m : PetriNet). m.places) e, ap (λ (m : PetriNet). m.transitions) e, ap (λ (m : PetriNet). m.marks) e)
-
-pub same_arcs : (n n' : PetriNet) → n ≡ n' → SameArcs n n'
-same_arcs n n' e t = (ap (λ (m : PetriNet). m.takes t) e, ap (λ (m : PetriNet). m.gives t) e)
+      note = is ∙ sym (ap (noted_by (folded_net f)) next) ∙ ap noted f.fused

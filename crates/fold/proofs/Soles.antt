@@ -1,5 +1,5 @@
 -- The one number that passes a test.
-use Rattle.std.proofs.Common.{◌≡◌, ℕ, ◌+◌, ◌<◌, Bool, true, false, not, ◌&&◌, eqb, is_some, Some, None, Option, sym, refl, ap, ◌∙◌, subst, ⊎_elim, arith}
+use Rattle.std.proofs.Common.{◌≡◌, ℕ, ◌<◌, Bool, true, false, not, ◌&&◌, eqb, is_some, Some, None, Option, sym, refl, ap, ◌∙◌, subst, ⊎_elim, arith}
 use Rattle.std.proofs.lemmas.Bool.{both_ways, cases_eq, cases_Bool, and_from, and_left, and_right, not_from_true, not_from_false, cond-true, cond-false, eq-eqb, ne_eqb}
 use Rattle.net.specs.Lowest.{lowest, Lowest}
 use Rattle.net.proofs.Lows.{lowest_is, lowest_is_lowest, lowest_when_none}
@@ -69,19 +69,7 @@ sole_only k test u e = go (lowest k test) (lowest_is_lowest k test) e
 
 -- ---- the numbers tried one by one
 
-pub only_more : (k : ℕ) (test : ℕ → Bool) (o : Option ℕ) → Only k test o → test k ≡ false → Only (k + 1) test o
-only_more k test (Some u) (lt, e, others) f =
-    (omega arith, e, λ j l ne. ⊎_elim (λ s. ap test s ∙ f) (λ ns. others j (omega arith) ne) (cases_eq j k))
-only_more k test None fails f = λ j l. ⊎_elim (λ s. ap test s ∙ f) (λ ns. fails j (omega arith)) (cases_eq j k)
-
-pub only_found : (k : ℕ) (test : ℕ → Bool) → Only k test None → test k ≡ true → Only (k + 1) test (Some k)
-only_found k test fails e = (omega arith, e, λ j l ne. fails j (omega arith))
-
 -- a second one is found
 pub only_twice : (k m : ℕ) (test : ℕ → Bool) (o : Option ℕ) → Only k test o → is_some o ≡ true → k < m → test k ≡ true → sole m test ≡ None
 only_twice k m test (Some u) (lt, e, others) is l f = two_not_sole m test u k (omega arith) l (λ s. omega arith) e f
 only_twice k m test None fails is l f = absurd (both_ways false refl is)
-
-pub only_none : (k : ℕ) (test : ℕ → Bool) (o : Option ℕ) → Only k test o → is_some o ≡ false → Only k test None
-only_none k test (Some u) h e = absurd (both_ways true e refl)
-only_none k test None h e = h

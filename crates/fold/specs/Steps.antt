@@ -10,11 +10,8 @@
 --   nothing_noted   the step that stands where none was made: place 0 with the empty set
 --   noted_by        what a fusion notes, and nothing where there is none
 --   noted           what the next fusion notes, and nothing where none applies
---   SameNumbers     two nets have the same places, transitions and marks
---   SameArcs        each transition takes the same set in two nets, and gives the same set
 --   Noted           a fusion applied before each of the first steps, and the step is what that fusion notes
 --   put_back        the set with the noted place in it where it meets the noted set, and without that place otherwise
---   undo            the noted place of step k put back
 --   unfolded        each noted place put back, that of the last step first
 use Rattle.std.specs.Prelude.{◌≡◌, ℕ, zero, suc, ◌^◌, ◌<◌, true, cond, List, [], ◌∷◌, is_some, Some, None, Option, ◌==◌, slice_index_or}
 use Rattle.std.specs.Option.{unwrap_or, option_map}
@@ -67,20 +64,11 @@ noted_by n None = nothing_noted
 abbrev pub noted : PetriNet → Step
 noted n = noted_by n (fusion_of n)
 
-abbrev pub SameNumbers : PetriNet → PetriNet → Type 0
-SameNumbers n n' = (n.places ≡ n'.places) × (n.transitions ≡ n'.transitions) × (n.marks ≡ n'.marks)
-
-abbrev pub SameArcs : PetriNet → PetriNet → Type 0
-SameArcs n n' = (t : ℕ) → (n.takes t ≡ n'.takes t) × (n.gives t ≡ n'.gives t)
-
 abbrev pub Noted : PetriNet → List Step → ℕ → Type 0
 Noted n steps count = (k : ℕ) → k < count → (is_some (fusion_of (folding n k)) ≡ true) × ((slice_index_or steps k nothing_noted).place ≡ (noted (folding n k)).place) × ((slice_index_or steps k nothing_noted).set ≡ (noted (folding n k)).set)
 
 abbrev pub put_back : ℕ → ℕ → ℕ → ℕ
 put_back p meeting s = cond (intersection meeting s == 0) (difference s (2 ^ p)) (union s (2 ^ p))
-
-abbrev pub undo : List Step → ℕ → ℕ → ℕ
-undo steps k s = put_back (slice_index_or steps k nothing_noted).place (slice_index_or steps k nothing_noted).set s
 
 abbrev pub unfolded : List Step → ℕ → ℕ
 unfolded [] s = s

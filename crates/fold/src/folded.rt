@@ -1,6 +1,6 @@
 ghost use Rattle.std.specs.Prelude.{◌≡◌, length};
 ghost use Rattle.net.specs.Nets.{drawn};
-ghost use Rattle.fold.specs.Steps.{folding, SameNumbers, SameArcs, Noted};
+ghost use Rattle.fold.specs.Steps.{folding, Noted};
 
 use crate::step::Step;
 use arrayvec::ArrayVec;
@@ -13,7 +13,6 @@ pub struct Folded {
     pub(crate) original: Net,
     pub(crate) folded: Net,
     pub(crate) steps: ArrayVec<Step, 64>,
-    ghost numbered: { SameNumbers (drawn folded) (folding (drawn original) (length steps.items)) },
-    ghost arced: { SameArcs (drawn folded) (folding (drawn original) (length steps.items)) },
+    ghost fused: { drawn folded ≡ folding (drawn original) (length steps.items) },
     ghost noted: { Noted (drawn original) steps.items (length steps.items) },
 }

@@ -54,9 +54,7 @@ impl Folded {
         ensures after { Fused self.old result self.new }
         ensures covers { HasCover (folded_net self.new) ↔ HasCover (folded_original self.new) }
     {
-        let Some(fusion) = next_fusion(&self.folded) else {
-            return None;
-        };
+        let fusion = next_fusion(&self.folded)?;
         let (transition, step) = plan(&self.folded, fusion);
         self.folded = replace(&self.folded, transition, step);
         self.steps.push(step);

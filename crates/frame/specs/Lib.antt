@@ -6,4 +6,5 @@ pub mod Tags
 pub mod Writings
 pub mod Requests
 pub mod Cuts
+pub mod Uncut
 pub mod Replies

@@ -11,7 +11,7 @@ mod tags;
 mod writes;
 
 pub use answers::answer;
-pub use cuts::first_line;
+pub use cuts::{Lines, first_line};
 pub use frames::{Frame, Payload};
 pub use kinds::Kind;
 pub use reads::read;

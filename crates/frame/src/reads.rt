@@ -17,10 +17,7 @@ use refusal::Refusal;
 fn digits_in(line: &[u8]) -> &[u8]
     ensures { result.now ≡ digits_in line.now }
 {
-    let [digits @ .., last] = line else {
-        return line;
-    };
-    if *last == b'\n' { digits } else { line }
+    line.strip_suffix(b"\n").unwrap_or(line)
 }
 
 // The sum of the bytes that digits stand for, modulo 256.

@@ -100,17 +100,17 @@ impl<'a> Frame<'a> {
         ensures place { result.place ≡ place_of self.entry }
     {
         match self {
-            Frame::Draw(payload) => payload,
-            Frame::Arcs(payload) => payload,
-            Frame::Propose(payload) => payload,
-            Frame::Search(payload) => payload,
-            Frame::Certify(payload) => payload,
-            Frame::Fire(payload) => payload,
-            Frame::Signal(payload) => payload,
-            Frame::Halt(payload) => payload,
-            Frame::Resume(payload) => payload,
-            Frame::Home(payload) => payload,
-            Frame::Answer { payload, .. } => payload,
+            Frame::Draw(payload)
+            | Frame::Arcs(payload)
+            | Frame::Propose(payload)
+            | Frame::Search(payload)
+            | Frame::Certify(payload)
+            | Frame::Fire(payload)
+            | Frame::Signal(payload)
+            | Frame::Halt(payload)
+            | Frame::Resume(payload)
+            | Frame::Home(payload)
+            | Frame::Answer { payload, .. } => payload,
         }
     }
 

@@ -1,9 +1,7 @@
 -- The arcs of a net as it is drawn, and after a transition was given its own.
-use Rattle.std.proofs.Common.{◌≡◌, ℕ, ◌^◌, ◌<◌, cond, eqb, List, length, set, replicate, sym, refl, ap, ◌∙◌, ⊎_elim, arith, pow_pos}
-use lib.Bits.{bit_and}
-use Rattle.std.proofs.lemmas.List.{get_or-set_same, get_or-set_other, get_or-replicate, get_or_past, length-replicate}
-use Rattle.std.proofs.lemmas.Bool.{cases_eq, cases_lt, cond-true, cond-false, eq-eqb, ne_eqb}
-use Rattle.net.specs.declared.transition.Transition.{Transition}
+use Rattle.std.proofs.Common.{◌≡◌, ℕ, replicate, refl, ap, ⊎_elim, arith, pow_pos}
+use Rattle.std.proofs.lemmas.List.{get_or-replicate, get_or_past, length-replicate}
+use Rattle.std.proofs.lemmas.Bool.{cases_lt}
 use Rattle.net.specs.Arcs.{no_arcs, arcs_at, Arcs, Ended}
 use Rattle.net.specs.Nets.{PetriNet}
 use Rattle.net.specs.Drawings.{without_arcs}
@@ -39,18 +37,3 @@ pub drawn_bare : (places transitions marks : ℕ)
     → bare_net places transitions marks ≡ without_arcs places transitions marks
 drawn_bare places transitions marks = same_drawn (bare_net places transitions marks) (without_arcs places transitions marks) refl refl refl
     (λ t. ap (λ a. a.taken) (none_at 64 t)) (λ t. ap (λ a. a.given) (none_at 64 t))
-
--- ---- the arcs of transition i
-
-pub arcs_set : (p i : ℕ) (a : Transition) (table : List Transition) → i < length table → a.taken < 2 ^ p → a.given < 2 ^ p → bit_and a.taken a.given ≡ 0 → Arcs p table → Arcs p (set table i a)
-arcs_set p i a table lt ha hb none old t =
-    ⊎_elim
-    (λ e. let is : arcs_at (set table i a) t ≡ a = ap (λ k. arcs_at (set table i a) k) e ∙ get_or-set_same table i a no_arcs lt in rw is (ha, hb, none))
-    (λ ne. let is : arcs_at (set table i a) t ≡ arcs_at table t = get_or-set_other table i t a no_arcs ne in rw is (old t))
-    (cases_eq t i)
-
-pub ended_set : (m i : ℕ) (a : Transition) (table : List Transition) → i < m → Ended m table → Ended m (set table i a)
-ended_set m i a table lt old t le =
-    let ne : t ≡ i → ⊥ = λ e. omega arith in
-    let is : arcs_at (set table i a) t ≡ arcs_at table t = get_or-set_other table i t a no_arcs ne in
-    rw is (old t le)

@@ -7,11 +7,12 @@
 use Rattle.std.specs.Prelude.{ℕ, ◌+◌, ◌-◌, Bool, cond, List, [], ◌∷◌, ◌++◌, length, is_ok, Ok, Err, codes, decimal}
 use Rattle.refusal.specs.declared.Refusal.{Refusal}
 use Rattle.refusal.specs.Numbers.{number_of}
+use Rattle.refusal.specs.Reasons.{reason_of}
 use Rattle.refusal.specs.Outcomes.{Outcome}
 use Rattle.frame.specs.Lines.{digits_in, kind_in, payload_in, check_digits}
 use Rattle.frame.specs.Requests.{request_of}
 use Rattle.frame.specs.Cuts.{lines_of}
-use Rattle.report.specs.Texts.{reason_of, saying_of}
+use Rattle.report.specs.Texts.{saying_of}
 
 abbrev pub is_good : List ℕ → Bool
 is_good line = is_ok (check_digits (digits_in line))

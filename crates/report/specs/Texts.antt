@@ -1,43 +1,15 @@
 -- The texts that a report is made of, in ASCII.
---   reason_of     why something is refused, in words
 --   members_of    the members of a set between braces
 --   kind_name_of  the kind of a line in a word or two
 --   draw_text, arcs_text, propose_text, fire_text, signal_text, answer_text   what a line of that kind says, with its fields
 --   saying_of     what any line says
 use Rattle.std.specs.Prelude.{ℕ, zero, suc, cond, List, [], ◌++◌, Some, None, codes, decimal, Option}
-use Rattle.refusal.specs.declared.Refusal.{Refusal}
-use Rattle.refusal.specs.declared.Refusal.TheVariants.{TooManyPlaces, TooManyTransitions, MarkOutside, NoSuchTransition, ArcOutside, TakenAndGiven, EmptySet, PlaceOutside, TwoMarks, NotEvenOrNotThin, NoBarePlace, Bare, Unlit, Occupied, Shut, NoSuchStrand, Foreign, OddOrShort, WrongCheck, UnknownKind, WrongLength, OutOfOrder, Spent, MemoryTooShort}
 use Rattle.frame.specs.declared.kinds.Kind.{Kind}
 use Rattle.frame.specs.declared.kinds.Kind.TheVariants as kind
+use Rattle.frame.specs.Kinds.{name_of}
 use Rattle.frame.specs.declared.requests.Request.{Request}
 use Rattle.frame.specs.declared.requests.Request.TheVariants.{Draw, Arcs, Propose, Search, Certify, Fire, Signal, Halt, Resume, Home, Answer}
 use Rattle.net.specs.Sets.{has}
-
-abbrev pub reason_of : Refusal → List ℕ
-reason_of TooManyPlaces = codes "more than 64 places"
-reason_of TooManyTransitions = codes "more than 64 transitions"
-reason_of MarkOutside = codes "a mark outside the net"
-reason_of NoSuchTransition = codes "no such transition"
-reason_of ArcOutside = codes "an arc to a place outside the net"
-reason_of TakenAndGiven = codes "a place both taken and given"
-reason_of EmptySet = codes "the empty set"
-reason_of PlaceOutside = codes "a place outside the net"
-reason_of TwoMarks = codes "two marked places"
-reason_of (NotEvenOrNotThin transition) = codes "not even or not thin at a transition"
-reason_of NoBarePlace = codes "no bare place"
-reason_of (Bare place) = codes "a bare place"
-reason_of (Unlit place) = codes "an unlit place"
-reason_of (Occupied place) = codes "an occupied place"
-reason_of (Shut channel) = codes "shut by a channel"
-reason_of NoSuchStrand = codes "no such strand"
-reason_of Foreign = codes "a foreign character"
-reason_of OddOrShort = codes "an odd count of digits or fewer than four"
-reason_of WrongCheck = codes "a wrong check byte"
-reason_of UnknownKind = codes "an unknown kind"
-reason_of WrongLength = codes "a wrong payload length"
-reason_of OutOfOrder = codes "out of order"
-reason_of (Spent stage) = codes "memory spent at a stage"
-reason_of MemoryTooShort = codes "memory too short"
 
 -- the members below k, each after a space
 unfoldable pub listed : ℕ → ℕ → List ℕ
@@ -49,16 +21,7 @@ members_of s = codes "{" ++ (listed 64 s ++ codes " }")
 
 abbrev pub kind_name_of : Option Kind → List ℕ
 kind_name_of None = codes "no kind"
-kind_name_of (Some kind.Draw) = codes "draw"
-kind_name_of (Some kind.Arcs) = codes "arcs"
-kind_name_of (Some kind.Propose) = codes "propose"
-kind_name_of (Some kind.Search) = codes "search"
-kind_name_of (Some kind.Certify) = codes "certify and start"
-kind_name_of (Some kind.Fire) = codes "fire"
-kind_name_of (Some kind.Signal) = codes "signal"
-kind_name_of (Some kind.Halt) = codes "halt"
-kind_name_of (Some kind.Resume) = codes "resume"
-kind_name_of (Some kind.Home) = codes "home"
+kind_name_of (Some kind) = name_of kind
 
 abbrev pub draw_text : ℕ → ℕ → ℕ → List ℕ
 draw_text places transitions marks = codes "draw: places " ++ (decimal places ++ (codes ", transitions " ++ (decimal transitions ++ (codes ", marks " ++ members_of marks))))

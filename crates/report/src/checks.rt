@@ -1,39 +1,29 @@
 // The report on a job file: what each line says, or what is wrong with it.
-ghost use Rattle.std.specs.Prelude.{◌≡◌, ◌++◌, IfOk, string_bytes};
+ghost use Rattle.std.specs.Prelude.{◌≡◌, ◌++◌, IfOk, MatchResult, string_bytes};
+ghost use Rattle.frame.specs.Frames.{kind_of, payload_of};
+ghost use Rattle.frame.specs.Requests.{request_of};
+ghost use Rattle.report.specs.Texts.{saying_of};
 ghost use Rattle.report.specs.Checks.{is_good, refused_text, finding_of, line_text, closing_text, report_of};
 
-use crate::texts::{reason, saying};
-use frame::{first_line, read};
+use crate::texts::saying;
+use frame::{Frame, Lines, read};
 use refusal::Refusal;
 use std::alloc::{AllocError, Global};
-
-#[derive(Drop)]
-struct Finding {
-    good: bool,
-    text: String,
-}
 
 fn refused_text(heap: Global, refusal: Refusal) -> Result<String, AllocError>
     ensures { IfOk result (λ s. string_bytes s ≡ refused_text refusal) }
 {
     let number = refusal.number();
-    let reason = reason(refusal);
-    format!(in heap; "refused {number}: {reason}")
+    format!(in heap; "refused {number}: {refusal}")
 }
 
-// What a line at a place says, or what is wrong with it.
-fn find(heap: Global, line: &[u8], place: usize) -> Result<Finding, AllocError>
-    ensures { IfOk result (λ f. (f.good ≡ is_good line.now) × (string_bytes f.text ≡ finding_of line.now)) }
+// What was read, in words: what the line says, or what is wrong with it.
+fn found_text(heap: Global, found: Result<Frame<'_>, Refusal>) -> Result<String, AllocError>
+    ensures { IfOk result (λ s. MatchResult found.entry (λ frame. string_bytes s ≡ saying_of (request_of (kind_of frame) (payload_of frame))) (λ refusal. string_bytes s ≡ refused_text refusal)) }
 {
-    match read(line, place) {
-        Ok(frame) => Ok(Finding {
-            good: true,
-            text: saying(heap, frame.request())?,
-        }),
-        Err(refusal) => Ok(Finding {
-            good: false,
-            text: refused_text(heap, refusal)?,
-        }),
+    match found {
+        Ok(frame) => saying(heap, frame.request()),
+        Err(refusal) => refused_text(heap, refusal),
     }
 }
 
@@ -59,10 +49,11 @@ fn report_line(
 ) -> Result<bool, AllocError>
     ensures { IfOk result (λ good. (good ≡ is_good line.now) × (string_bytes report.new ≡ string_bytes report.old ++ line_text number place (finding_of line.now))) }
 {
-    let found = find(heap, line, place)?;
-    let text = line_text(heap, number, place, found.text.as_str())?;
+    let found = read(line, place);
+    let text = found_text(heap, found)?;
+    let text = line_text(heap, number, place, text.as_str())?;
     report.push_str(text.as_str())?;
-    Ok(found.good)
+    Ok(found.is_ok())
 }
 
 // A line of text for each line of the job, and then how many are good and how many are bad.
@@ -70,20 +61,18 @@ pub fn check(heap: Global, job: &[u8]) -> Result<String, AllocError>
     ensures { IfOk result (λ s. string_bytes s ≡ report_of job.now) }
 {
     let mut report = String::new(heap);
-    let mut rest = job;
     let mut place = 0;
-    let mut number = 0;
     let mut good = 0;
-    while !rest.is_empty() {
-        let (line, more) = first_line(rest);
-        number += 1;
-        if report_line(heap, &mut report, number, place, line)? {
+    let mut bad = 0;
+    for line in Lines::of(job) {
+        if report_line(heap, &mut report, good + bad + 1, place, line)? {
             good += 1;
+        } else {
+            bad += 1;
         }
         place += line.len();
-        rest = more;
     }
-    let closing = closing_text(heap, good, number - good)?;
+    let closing = closing_text(heap, good, bad)?;
     report.push_str(closing.as_str())?;
     Ok(report)
 }

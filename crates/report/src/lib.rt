@@ -5,4 +5,4 @@ mod checks;
 mod texts;
 
 pub use checks::check;
-pub use texts::{kind_name, members, reason, saying};
+pub use texts::{kind_name, members, saying};

@@ -1,23 +1,11 @@
-use Rattle.std.proofs.Common.{◌≡◌, [], ◌∷◌, length, is_ok, Ok, Err, sym, refl, ap, ◌∙◌, arith, length-append}
-use Rattle.std.proofs.lemmas.Bool.{eq-eqb, ne_eqb}
+use Rattle.std.proofs.Common.{[], ◌∷◌, length, is_ok, Ok, Err, sym, ap, arith, rules, length-append}
 use Rattle.refusal.specs.declared.Refusal.TheVariants.{NoBarePlace}
-use Rattle.refusal.specs.Outcomes.{Outcome, refuse_if}
-use Rattle.cover.specs.Bare.{propose_outcome}
 use Rattle.cover.specs.Sheets.{sheet_net, sheet_strands}
-use Rattle.cover.proofs.Bares.{answer_by_bare, new_cases, room_for_one, room_after, bare_more, checked_more}
+use Rattle.cover.proofs.Bares.{new_cases, room_for_one, room_after, bare_more, checked_more}
 use Rattle.cover.proofs.sheet.Sheet.propose.Goals as goal
 
-pub returns-then-fresh-eq0 : goal.returns-then-fresh-eq0
-returns-then-fresh-eq0 c =
-    let old = c.args.self.now in
-    let n = sheet_net old in
-    let ss = sheet_strands old in
-    let s = c.args.set in
-    let r : Outcome = Err NoBarePlace in
-    let answer : r ≡ propose_outcome n ss s =
-    sym (ap (λ b. refuse_if b NoBarePlace (Ok tt)) (eq-eqb _ 0 c.if-fresh-eq0.true))
-    ∙ answer_by_bare n ss s old.bare old.bared c.in_ok-check.field-0 c.in_ok-check.ensures.answer in
-    record { answer = answer; strand = new_cases n ss s r answer; after = refl }
+pub returns-then-fresh-eq0-clause-strand : goal.returns-then-fresh-eq0-clause-strand
+returns-then-fresh-eq0-clause-strand c = new_cases (sheet_net c.args.self.now) (sheet_strands c.args.self.now) c.args.set (Err NoBarePlace) (search rules)
 
 pub push-requires : goal.push-requires
 push-requires c =
@@ -36,14 +24,5 @@ invariant_of-self c =
       room = rw (length-append (sheet_strands old) (s ∷ [])) (room_after (length old.strands.items) old.net.places old.bare s c.if-fresh-eq0.false old.room);
     })
 
-pub returns : goal.returns
-returns c =
-    let old = c.args.self.now in
-    let n = sheet_net old in
-    let ss = sheet_strands old in
-    let s = c.args.set in
-    let r : Outcome = Ok tt in
-    let answer : r ≡ propose_outcome n ss s =
-    sym (ap (λ b. refuse_if b NoBarePlace (Ok tt)) (ne_eqb _ 0 c.if-fresh-eq0.false))
-    ∙ answer_by_bare n ss s old.bare old.bared c.in_ok-check.field-0 c.in_ok-check.ensures.answer in
-    record { answer = answer; strand = new_cases n ss s r answer; after = (refl, c.push.ensures.items) }
+pub returns-clause-strand : goal.returns-clause-strand
+returns-clause-strand c = new_cases (sheet_net c.args.self.now) (sheet_strands c.args.self.now) c.args.set (Ok tt) (search rules)

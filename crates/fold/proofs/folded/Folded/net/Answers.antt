@@ -1,6 +1,5 @@
-use Rattle.std.proofs.Common.{refl}
 use Rattle.fold.proofs.Facts.{folded_keeps_covers}
 use Rattle.fold.proofs.folded.Folded.net.Goals as goal
 
-pub returns : goal.returns
-returns c = record { held = refl; covers = folded_keeps_covers c.args.self.now }
+pub returns-clause-covers : goal.returns-clause-covers
+returns-clause-covers c = folded_keeps_covers c.args.self.now
