@@ -24,11 +24,10 @@ pub(crate) fn drive<B: Board, W: Weight>(
     ensures weights_follow_the_fires { WeightsFollowTheFires W.Weight.addition W.Weight.minus (certified_net certified) log.new (B.Lines.lit (state_of result).board) }
 {
     let mut run = Run::Going(Going::start(certified, board));
-    for i in 0..log.len() {
-        let call = log[i].call;
-        let (next, answer) = step(run, call, weights);
+    for entry in log.iter_mut() {
+        let (next, answer) = step(run, entry.call, weights);
         run = next;
-        log[i] = Entry { call, answer };
+        entry.answer = answer;
     }
     run
 }

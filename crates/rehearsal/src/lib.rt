@@ -8,5 +8,5 @@ mod rehearsed;
 mod rehearses;
 mod steps;
 
-pub use rehearsed::{Ended, Rehearsed};
+pub use rehearsed::{Refused, Rehearsed};
 pub use rehearses::rehearse;

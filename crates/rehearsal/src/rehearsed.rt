@@ -3,13 +3,14 @@ use fold::Folded;
 use refusal::Refusal;
 use run::Run;
 
-// The run after the calls; or why the cover was refused, with the board.
-pub enum Ended<B> {
-    Ran(Run<B>),
-    Refused(Refusal, B),
+// Why the cover was refused, with the board.
+pub struct Refused<B> {
+    pub why: Refusal,
+    pub board: B,
 }
 
+// The folded net, and the run after the calls.
 pub struct Rehearsed<B> {
     pub folded: Folded,
-    pub ended: Ended<B>,
+    pub ended: Result<Run<B>, Refused<B>>,
 }

@@ -10,7 +10,7 @@ ghost use Rattle.rehearsal.specs.Rehearsals.{AnswersBy, LinesOf, WeightsOf};
 use crate::covers::certified_by;
 use crate::drives::drive;
 use crate::folds::folded_by;
-use crate::rehearsed::{Ended, Rehearsed};
+use crate::rehearsed::{Refused, Rehearsed};
 use board::Board;
 use net::Net;
 use run::Entry;
@@ -35,11 +35,11 @@ pub fn rehearse<B: Board, W: Weight>(
     match certified_by(net, cover) {
         Ok(certified) => Rehearsed {
             folded,
-            ended: Ended::Ran(drive(certified, board, weights, log)),
+            ended: Ok(drive(certified, board, weights, log)),
         },
         Err(why) => Rehearsed {
             folded,
-            ended: Ended::Refused(why, board),
+            ended: Err(Refused { why, board }),
         },
     }
 }

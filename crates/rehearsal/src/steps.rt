@@ -1,11 +1,34 @@
 // One call of a run, with its answer.
 ghost use Rattle.std.specs.Prelude.{◌≡◌};
 ghost use Rattle.cover.specs.Certificates.{certified_net, certified_strands};
-ghost use Rattle.run.specs.States.{state_of, certified_of, going_on, halted_on, Step};
+ghost use Rattle.net.specs.Sets.{has};
+ghost use Rattle.rehearsal.specs.Shared.{asked};
+ghost use Rattle.run.specs.States.{state_of, certified_of, going_on, halted_on, Moved, Step};
 
 use board::{Board, Lines};
-use run::{Answer, Call, Going, Halted, Run};
+use run::{Answer, Call, Driven, Going, Halted, Run};
 use weight::{Weight, weigh};
+
+// One of the calls that every run has, going or halted.
+fn ask<B: Board, S, W: Weight>(run: &mut Driven<B, S>, call: Call, weights: &[W]) -> Answer<W>
+    ensures answer { result ≡ asked W.Weight.addition (certified_strands run.old.certified) weights.now (has (B.Lines.lit run.old.board)) call }
+    ensures moved { Moved B.Lines.lit B.Board.closed B.Board.signalled (certified_net run.old.certified) call result run.old.board run.new.board }
+    ensures kept { run.new.certified ≡ run.old.certified }
+{
+    match call {
+        Call::Signal(channel, event) => {
+            run.signal(channel, event);
+            Answer::Done
+        }
+        Call::Read(line) => Answer::Lit(run.read(line)),
+        Call::Station(k) => match run.station(k) {
+            Ok(place) => Answer::At(place),
+            Err(why) => Answer::Refused(why),
+        },
+        Call::Weigh => Answer::Weight(weigh(run, weights)),
+        Call::Fire(_) | Call::Halt | Call::Resume | Call::Home => Answer::Absent,
+    }
+}
 
 // One call of a run that goes.
 fn step_going<B: Board, W: Weight>(
@@ -21,24 +44,10 @@ fn step_going<B: Board, W: Weight>(
             Ok(()) => (Run::Going(run), Answer::Done),
             Err(why) => (Run::Going(run), Answer::Refused(why)),
         },
-        Call::Signal(channel, event) => {
-            run.signal(channel, event);
-            (Run::Going(run), Answer::Done)
-        }
         Call::Halt => (Run::Halted(run.halt()), Answer::Done),
-        Call::Resume => (Run::Going(run), Answer::Absent),
-        Call::Home => (Run::Going(run), Answer::Absent),
-        Call::Read(n) => {
-            let lit = run.read(n);
-            (Run::Going(run), Answer::Lit(lit))
-        }
-        Call::Station(k) => match run.station(k) {
-            Ok(place) => (Run::Going(run), Answer::At(place)),
-            Err(why) => (Run::Going(run), Answer::Refused(why)),
-        },
-        Call::Weigh => {
-            let weight = weigh(&run, weights);
-            (Run::Going(run), Answer::Weight(weight))
+        _ => {
+            let answer = ask(&mut run, call, weights);
+            (Run::Going(run), answer)
         }
     }
 }
@@ -53,28 +62,14 @@ fn step_halted<B: Board, W: Weight>(
     ensures kept { certified_of result.0 ≡ run.certified }
 {
     match call {
-        Call::Fire(_) => (Run::Halted(run), Answer::Absent),
-        Call::Signal(channel, event) => {
-            run.signal(channel, event);
-            (Run::Halted(run), Answer::Done)
-        }
-        Call::Halt => (Run::Halted(run), Answer::Absent),
         Call::Resume => (Run::Going(run.resume()), Answer::Done),
         Call::Home => {
             run.home();
             (Run::Halted(run), Answer::Done)
         }
-        Call::Read(n) => {
-            let lit = run.read(n);
-            (Run::Halted(run), Answer::Lit(lit))
-        }
-        Call::Station(k) => match run.station(k) {
-            Ok(place) => (Run::Halted(run), Answer::At(place)),
-            Err(why) => (Run::Halted(run), Answer::Refused(why)),
-        },
-        Call::Weigh => {
-            let weight = weigh(&run, weights);
-            (Run::Halted(run), Answer::Weight(weight))
+        _ => {
+            let answer = ask(&mut run, call, weights);
+            (Run::Halted(run), answer)
         }
     }
 }

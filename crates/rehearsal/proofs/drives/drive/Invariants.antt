@@ -5,10 +5,10 @@ use Rattle.run.specs.States.{state_of, certified_of, Chain}
 use Rattle.rehearsal.proofs.drives.drive.Given as goal
 
 -- the certified net and the calls are as they were, and the lines went from where the run started by the calls so far
-abbrev pub invariant-loop-i : goal.invariant-loop-i
-invariant-loop-i g l =
+abbrev pub invariant-loop-entry : goal.invariant-loop-entry
+invariant-loop-entry g l =
     let n = certified_net (certified_of l.initial.run) in
     let strands = certified_strands (certified_of l.initial.run) in
     (certified_of l.run ≡ certified_of l.initial.run)
     × (calls l.log ≡ calls l.initial.log)
-    × Chain g.B.Lines.lit g.B.Board.closed g.B.Board.signalled g.W.Weight.addition n strands l.weights (state_of l.initial.run) (take l.i l.log) (state_of l.run)
+    × Chain g.B.Lines.lit g.B.Board.closed g.B.Board.signalled g.W.Weight.addition n strands l.weights (state_of l.initial.run) (take l.entry-index l.log) (state_of l.run)
