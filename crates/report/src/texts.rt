@@ -42,6 +42,7 @@ pub fn kind_name(kind: Option<Kind>) -> &'static str
     }
 }
 
+// Each kind of line with fields has its text in a function of its own: one `fmt` with all of them would be past forty lines.
 fn draw_text(heap: Global, places: u8, transitions: u8, marks: u64) -> Result<String, AllocError>
     ensures { IfOk result (λ s. string_bytes s ≡ draw_text places transitions marks) }
 {
