@@ -1,6 +1,6 @@
 -- The one number that passes a test.
 use Rattle.std.proofs.Common.{◌≡◌, ℕ, ◌<◌, Bool, true, false, not, ◌&&◌, eqb, is_some, Some, None, Option, sym, refl, ap, ◌∙◌, subst, ⊎_elim, arith}
-use Rattle.std.proofs.lemmas.Bool.{both_ways, cases_eq, cases_Bool, and_from, and_left, and_right, not_from_true, not_from_false, cond-true, cond-false, eq-eqb, ne_eqb}
+use Rattle.std.proofs.lemmas.Bool.{both_ways, cases_eq, cases_lt, cases_Bool, and_from, and_left, and_right, not_from_true, not_from_false, cond-true, cond-false, eq-eqb, ne_eqb}
 use Rattle.net.specs.Lowest.{lowest, Lowest}
 use Rattle.net.proofs.Lows.{lowest_is, lowest_is_lowest, lowest_when_none}
 use Rattle.fold.specs.Fusions.{alone, only_if, sole}
@@ -67,9 +67,7 @@ sole_only k test u e = go (lowest k test) (lowest_is_lowest k test) e
         absurd (let z : ◌≡◌ {A = ℕ} 0 1 = cc in omega arith))
         (cases_Bool (alone k test p))
 
--- ---- the numbers tried one by one
-
--- a second one is found
-pub only_twice : (k m : ℕ) (test : ℕ → Bool) (o : Option ℕ) → Only k test o → is_some o ≡ true → k < m → test k ≡ true → sole m test ≡ None
-only_twice k m test (Some u) (lt, e, others) is l f = two_not_sole m test u k (omega arith) l (λ s. omega arith) e f
-only_twice k m test None fails is l f = absurd (both_ways false refl is)
+-- the first that passes is the sole one where none behind it does
+pub sole_behind : (k : ℕ) (test : ℕ → Bool) (u : ℕ) → u < k → test u ≡ true → ((j : ℕ) → j < u → test j ≡ false) → ((j : ℕ) → u < j → j < k → test j ≡ false) → Some u ≡ sole k test
+sole_behind k test u lt e before behind =
+    only_sole k test (Some u) (lt, e, λ j l ne. ⊎_elim (λ less. before j less) (λ le. behind j (omega arith) l) (cases_lt j u))

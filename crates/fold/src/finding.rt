@@ -75,16 +75,12 @@ fn set_on(net: &Net, side: Side, transition: u8) -> u64
 pub(crate) fn only_one(net: &Net, side: Side, place: u8) -> Option<u8>
     ensures { result ≡ sole_on (drawn net.now) side place }
 {
-    let mut found = None;
-    for t in 0..net.transitions() {
-        if has(set_on(net, side, t), place) {
-            if found.is_some() {
-                return None;
-            }
-            found = Some(t);
-        }
+    let on_side = |&t: &u8| has(set_on(net, side, t), place);
+    let first = (0..net.transitions()).find(on_side)?;
+    match (first + 1..net.transitions()).find(on_side) {
+        None => Some(first),
+        Some(_) => None,
     }
-    found
 }
 
 // Whether the place allows a transition fusion.

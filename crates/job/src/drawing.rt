@@ -28,8 +28,6 @@ pub(crate) fn arcs(
 ) -> (State, Result<u8, Refusal>)
     ensures { Gives (obeyed (drawn_net (drawn net)) (Arcs transition taken given)) result.0 result.1 }
 {
-    match net.arcs(transition, taken, given) {
-        Ok(()) => (State::Drawn(net), Ok(0)),
-        Err(why) => (State::Drawn(net), Err(why)),
-    }
+    let said = net.arcs(transition, taken, given).map(|()| 0);
+    (State::Drawn(net), said)
 }

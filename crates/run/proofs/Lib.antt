@@ -1,4 +1,3 @@
-pub mod Walks
 pub mod Firings
 pub mod Accepts
 pub mod Chains

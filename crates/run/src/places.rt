@@ -5,18 +5,11 @@ ghost use Rattle.net.specs.Sets.{has};
 ghost use Rattle.run.specs.Firing.{agrees};
 
 use board::Lines;
-use net::lowest;
+use net::has;
 
 // The lowest place of the set whose line is as it is wanted: lit, or dark. Only the places of the set are looked at.
 pub(crate) fn lowest_with<L: Lines>(lines: &L, set: u64, wanted: bool) -> Option<u8>
     ensures { result ≡ lowest_of set (λ p. agrees wanted (has (L.Lines.lit lines.now) p)) }
 {
-    let mut rest = set;
-    while let Some(place) = lowest(rest) {
-        if lines.read(place) == wanted {
-            return Some(place);
-        }
-        rest ^= rest & (1 << place);
-    }
-    None
+    (0..64).find(|&place| has(set, place) && lines.read(place) == wanted)
 }

@@ -1,22 +1,30 @@
-use Rattle.std.proofs.Common.{◌≡◌, ℕ, ◌<◌, Bool, true, sym, ap, ◌∙◌, subst, arith}
+use Rattle.std.proofs.Common.{◌≡◌, ℕ, Bool, true, false, Some, None, sym, ◌∙◌, arith, rules}
+use Rattle.std.proofs.lemmas.Iterator.{first_from_Range}
 use Rattle.net.specs.Nets.{drawn}
 use Rattle.net.specs.Sets.{has}
 use Rattle.fold.specs.Fusions.{arcs_on}
-use Rattle.fold.proofs.Soles.{Only, only_sole, only_twice}
+use Rattle.fold.proofs.Soles.{only_sole, sole_behind, two_not_sole}
 use Rattle.fold.proofs.finding.only_one.Goals as goal
 
-pub returns-then-is_some : goal.returns-then-is_some
-returns-then-is_some c =
+pub returns-in_err-first : goal.returns-in_err-first
+returns-in_err-first c =
     let n = drawn c.args.net.now in
-    let t = c.loop-t.t in
-    let test : ℕ → Bool = λ k. has (arcs_on n c.args.side k) c.args.place in
-    let there : t < n.transitions = omega arith in
-    let passes : test t ≡ true = sym (c.if-has.ensures ∙ ap (λ s. has s c.args.place) c.set_on.ensures) in
-    sym (only_twice t n.transitions test c.loop-t.found c.loop-t.invariant (sym c.if-is_some.ensures) there passes)
+    let test : ℕ → Bool = λ t. has (arcs_on n c.args.side t) c.args.place in
+    let none = first_from_Range _ _ _ None (λ t. test t ≡ true) (λ t. test t ≡ false) c.in_err-first.ensures.ran (λ t q is. search rules) (λ t q is. search rules) in
+    c.from_residual.ensures ∙ only_sole n.transitions test None (λ t lt. none t (omega arith) (omega arith))
 
-pub returns : goal.returns
-returns c =
+pub returns-in-None : goal.returns-in-None
+returns-in-None c =
     let n = drawn c.args.net.now in
-    let test : ℕ → Bool = λ k. has (arcs_on n c.args.side k) c.args.place in
-    let all : c.loop-t.t ≡ n.transitions = omega arith in
-    only_sole n.transitions test c.loop-t.found (subst (λ k. Only k test c.loop-t.found) all c.loop-t.invariant)
+    let test : ℕ → Bool = λ t. has (arcs_on n c.args.side t) c.args.place in
+    let first = first_from_Range _ _ _ (Some c.in_ok-first.first) (λ t. test t ≡ true) (λ t. test t ≡ false) c.in_ok-first.ensures.ran (λ t q is. search rules) (λ t q is. search rules) in
+    let none = first_from_Range _ _ _ None (λ t. test t ≡ true) (λ t. test t ≡ false) c.in-None.ensures.ran (λ t q is. search rules) (λ t q is. search rules) in
+    sole_behind n.transitions test c.in_ok-first.first (omega arith) first.2 (λ t lt. first.3 t (omega arith) lt) (λ t past lt. none t (omega arith) (omega arith))
+
+pub returns-in-Some : goal.returns-in-Some
+returns-in-Some c =
+    let n = drawn c.args.net.now in
+    let test : ℕ → Bool = λ t. has (arcs_on n c.args.side t) c.args.place in
+    let first = first_from_Range _ _ _ (Some c.in_ok-first.first) (λ t. test t ≡ true) (λ t. test t ≡ false) c.in_ok-first.ensures.ran (λ t q is. search rules) (λ t q is. search rules) in
+    let second = first_from_Range _ _ _ (Some c.in-Some.field-0) (λ t. test t ≡ true) (λ t. test t ≡ false) c.in-Some.ensures.ran (λ t q is. search rules) (λ t q is. search rules) in
+    sym (two_not_sole n.transitions test c.in_ok-first.first c.in-Some.field-0 (omega arith) (omega arith) (λ e. omega arith) first.2 second.2)

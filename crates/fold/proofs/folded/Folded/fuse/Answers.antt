@@ -32,9 +32,11 @@ invariant_of-self c =
 
 pub returns-clause-after : goal.returns-clause-after
 returns-clause-after c =
-    let f = c.args.self.now in
-    (refl, plan_net f c.in_ok-fusion.fusion (sym c.in_ok-fusion.ensures) _ _ c.plan-transition.ensures.transition c.plan-transition.ensures.step _ c.replace-self.ensures,
-    c.push.ensures.items ∙ ap (λ s. folded_steps f ++ s ∷ []) c.plan-transition.ensures.step)
+    let f = c.args.self.now in (
+      refl,
+      plan_net f c.in_ok-fusion.fusion (sym c.in_ok-fusion.ensures) _ _ c.plan-transition.ensures.transition c.plan-transition.ensures.step _ c.replace-self.ensures,
+      c.push.ensures.items ∙ ap (λ s. folded_steps f ++ s ∷ []) c.plan-transition.ensures.step,
+    )
 
 pub returns-clause-covers : goal.returns-clause-covers
 returns-clause-covers c =
