@@ -1,4 +1,4 @@
-use Rattle.std.proofs.Common.{◌<◌, ◌≤◌, List, length, get_or, take, refl, ◌∙◌, subst, add-one, arith, take_all, take-suc-set}
+use Rattle.std.proofs.Common.{◌<◌, ◌≤◌, List, length, get_or, take, ◌∙◌, subst, add-one, arith, take_all, take-suc-set}
 use Rattle.cover.specs.Certificates.{certified_net, certified_strands}
 use Rattle.cover.specs.declared.certified.Certified.{Certified}
 use Rattle.run.specs.States.{state_of, going_on, Step, Chain}
@@ -6,9 +6,6 @@ use Rattle.run.specs.declared.calls.Entry.{Entry}
 use Rattle.run.proofs.Chains.{chain_more, calls_set}
 use Rattle.run.proofs.Whole.{run_follows, run_weighs}
 use Rattle.rehearsal.proofs.drives.drive.Goals as goal
-
-pub loop-entry-init : goal.loop-entry-init
-loop-entry-init g c = (refl, refl, refl)
 
 pub loop-entry-preserved : goal.loop-entry-preserved
 loop-entry-preserved g c =

@@ -1,6 +1,5 @@
-use Rattle.std.proofs.Common.{◌≡◌, ◌↔◌, ap, ◌∙◌, subst, arith}
+use Rattle.std.proofs.Common.{◌↔◌, ◌∙◌, subst}
 use Rattle.fold.specs.Foldings.{folded_net}
-use Rattle.fold.specs.Steps.{folding}
 use Rattle.fold.proofs.Facts.{folded_keeps_covers}
 use Rattle.net.specs.Nets.{PetriNet, drawn}
 use Rattle.net.specs.Strands.{HasCover}
@@ -16,13 +15,7 @@ loop-call-preserved c =
       fuse_folds n c.loop-call._call old new c.fuse.result c.loop-call.invariant.1 c.fuse.ensures.answer c.fuse.ensures.after,
     )
 
-pub returns : goal.returns
-returns c =
-    let n = drawn c.args.net.now in
+pub returns-clause-covers : goal.returns-clause-covers
+returns-clause-covers c =
     let f = c.loop-call.folded in
-    let end : c.loop-call._call ≡ c.args.fuses = omega arith in
-    record {
-      original = c.loop-call.invariant.0;
-      folded = c.loop-call.invariant.1 ∙ ap (folding n) end;
-      covers = subst (λ (m : PetriNet). HasCover (folded_net f) ↔ HasCover m) c.loop-call.invariant.0 (folded_keeps_covers f);
-    }
+    subst (λ (m : PetriNet). HasCover (folded_net f) ↔ HasCover m) c.loop-call.invariant.0 (folded_keeps_covers f)

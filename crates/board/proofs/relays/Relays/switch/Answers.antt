@@ -1,4 +1,4 @@
-use Rattle.std.proofs.Common.{ap, ◌∙◌, arith}
+use Rattle.std.proofs.Common.{ap, ◌∙◌}
 use Rattle.board.specs.Wear.{relay_at, switched}
 use Rattle.board.proofs.Rows.{set_none, set_more, set_all}
 use Rattle.board.proofs.relays.Relays.switch.Goals as goal
@@ -11,11 +11,5 @@ loop-n-preserved c =
     set_more c.args.set c.loop-n.n c.args.self.now.relays c.loop-n.relay-items c.switch.result c.loop-n-test.true c.loop-n.invariant
     (c.switch.ensures ∙ ap (λ b. switched b (relay_at c.loop-n.relay-items c.loop-n.n)) c.has.ensures)
 
-pub invariant_of-self : goal.invariant_of-self
-invariant_of-self c = record { long = c.loop-n.invariant.long }
-
-pub returns : goal.returns
-returns c = record {
-  lines = set_all c.args.set c.loop-n.n c.args.self.now.relays c.loop-n.relay-items c.ranges.set.fits c.loop-n-test.false c.loop-n.invariant;
-  switched = λ k lt. c.loop-n.invariant.done k (omega arith);
-}
+pub returns-clause-lines : goal.returns-clause-lines
+returns-clause-lines c = set_all c.args.set c.loop-n.n c.args.self.now.relays c.loop-n.relay-items c.ranges.set.fits c.loop-n-test.false c.loop-n.invariant
