@@ -41,6 +41,7 @@ fn touches_both(net: &Net, u: u8, t: u8) -> bool
 }
 
 // The lowest transition that allows a place fusion.
+// Labelled loops, as a rule of the project asks: the inner one goes on with the next transition where another touches both places.
 fn fusible_transition(net: &Net) -> Option<u8>
     ensures { result ≡ lowest (drawn net.now).transitions (place_fusible (drawn net.now)) }
 {

@@ -38,6 +38,7 @@ pub(crate) fn replace(net: &Net, transition: u8, step: Step) -> Net
     requires { Kept (replaced (drawn net.now) transition step.place step.set) }
     ensures { drawn result ≡ replaced (drawn net.now) transition step.place step.set }
 {
+    // a loop and no chain: each turn changes the net that the next one is given
     let mut after = Net::new();
     let _ = after.draw(net.places(), net.transitions(), moved_marks(net, step));
     for t in 0..net.transitions() {

@@ -61,6 +61,7 @@ impl Net {
         if taken & given != 0 {
             return Err(Refusal::TakenAndGiven);
         }
+        // one entry is written, at an index that the caller gives
         let mut table = self.table;
         table[transition as usize] = Transition { taken, given };
         *self = Net {

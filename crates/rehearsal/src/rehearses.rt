@@ -16,6 +16,8 @@ use net::Net;
 use run::Entry;
 use weight::Weight;
 
+// The clauses name the members of the bounds one by one, so that each shows what it speaks of: the lit set, the shut channel,
+// the rule for signals, the addition.
 // Folds a copy of the net by so many fuse calls; certifies the net by its cover, starts a run on the board,
 // and makes the calls of the log one after another, writing each answer beside its call.
 pub fn rehearse<B: Board, W: Weight>(
