@@ -1,17 +1,35 @@
 #!/bin/bash
 # Prints the places of each point of docs/DESIGN-PASS.md that a search finds in the sources.
-# Usage: tools/places.sh [FOLDER]
+# Usage: tools/places.sh [FOLDER]            the places
+#        tools/places.sh --count [FOLDER]    how many lines each search finds
+count=
+if [ "${1:-}" = --count ]; then
+    count=yes
+    shift
+fi
 cd "${1:-.}" || exit 1
 find_in() { # TITLE REGEX
+    if [ "$count" ]; then
+        echo "$1: $(search "$2" | wc -l)"
+        return
+    fi
     echo "== $1"
-    grep -rnE "$2" crates/*/src --include='*.rt' | grep -vE ':[0-9]+:\s*//|/tests\.rt:'
+    search "$2"
+}
+search() { # REGEX
+    grep -rnE "$1" crates/*/src --include='*.rt' | grep -vE ':[0-9]+:\s*//|/tests\.rt:|:ghost use|: *impl\b'
 }
 find_in '1a own enums' '^(pub(\(crate\))? )?enum '
 find_in '1b flags in structs' '^ +(pub )?[a-z]+: bool,'
 find_in '1c results whose error is a number' 'Result<[^,]*, u(8|16|32|64|size)>'
 find_in '1d numbers for kinds' 'kind: u8|fn kind\(self\) -> u8|fn (byte|answer_byte)\((self|to: [A-Za-z<>]+)\) -> u8'
 find_in '1e numbers for refusals' '\b(res|result): u8'
-find_in '2 functions with the name of another' 'fn [a-z_]+'
+twins=$(grep -rhE '^ *(pub(\(crate\))? )?fn [a-z_]+' crates/*/src --include='*.rt' | sed -E 's/.*fn ([a-z_]+).*/\1/' | sort | uniq -c | awk '$1 > 1')
+if [ "$count" ]; then
+    echo "2 names that more than one function has: $(echo "$twins" | wc -l)"
+else
+    printf '== 2 names that more than one function has, with how many\n%s\n' "$twins"
+fi
 find_in '3a loops' '\b(while|loop|for)\b .*\{$'
 find_in '3b counted indices' '\[[a-z][a-z0-9_]* as usize\]|\[i\]'
 find_in '4a conversions and copies by hand' 'fn (of|byte|copy|number|detail|digit|character)\('
