@@ -1,15 +1,12 @@
 // What a frame says, with its fields decoded.
-ghost use Rattle.std.specs.Prelude.{◌≡◌, ◌<◌, ◌≤◌, length, slice_index};
-ghost use Rattle.frame.specs.Digits.{bytes_of};
+ghost use Rattle.std.specs.Prelude.{◌≡◌};
 ghost use Rattle.frame.specs.Frames.{kind_of, digits_of, place_of, payload_of};
-ghost use Rattle.frame.specs.Requests.{set_at, request_of};
+ghost use Rattle.frame.specs.Requests.{request_of};
 ghost use Rattle.frame.specs.Tags.{tag_byte};
 
-use crate::digits::byte;
 use crate::frames::{Frame, Payload};
 use crate::kinds::Kind;
 use crate::tags::Tag;
-use std::array;
 
 #[derive(Clone, Copy, PartialEq, Eq, Debug)]
 pub enum Request {
@@ -46,28 +43,6 @@ pub enum Request {
     },
 }
 
-impl Payload<'_> {
-    // The byte at `at`; 0 where there is none, as never for a field of the payload's kind.
-    fn byte(self, at: usize) -> u8
-        requires { at < 32 }
-        ensures { result ≡ slice_index (bytes_of self.entry.digits.now) at }
-    {
-        let Some(pair) = self.digits.get(2 * at..2 * at + 2) else {
-            return 0;
-        };
-        byte(pair[0], pair[1])
-    }
-
-    // The set whose 8 bytes begin at `at`, highest first.
-    fn set(self, at: usize) -> u64
-        requires { at ≤ 9 }
-        ensures { result ≡ set_at (bytes_of self.entry.digits.now) at }
-    {
-        let bytes = array::from_fn(|i| self.byte(at + i));
-        u64::from_be_bytes(bytes)
-    }
-}
-
 impl<'a> Frame<'a> {
     // What the kind byte of the line says.
     fn tag(self) -> Tag
@@ -95,22 +70,26 @@ impl<'a> Frame<'a> {
         u8::from(self.tag())
     }
 
-    fn payload(self) -> Payload<'a>
-        ensures digits { result.digits.now ≡ digits_of self.entry }
-        ensures place { result.place ≡ place_of self.entry }
+    // The digits of the payload, and the place of the line.
+    fn parts(self) -> (&'a [u8], usize)
+        ensures digits { result.0.now ≡ digits_of self.entry }
+        ensures place { result.1 ≡ place_of self.entry }
     {
         match self {
-            Frame::Draw(payload)
-            | Frame::Arcs(payload)
-            | Frame::Propose(payload)
-            | Frame::Search(payload)
-            | Frame::Certify(payload)
-            | Frame::Fire(payload)
-            | Frame::Signal(payload)
-            | Frame::Halt(payload)
-            | Frame::Resume(payload)
-            | Frame::Home(payload)
-            | Frame::Answer { payload, .. } => payload,
+            Frame::Draw(Payload { digits, place, .. })
+            | Frame::Arcs(Payload { digits, place, .. })
+            | Frame::Propose(Payload { digits, place, .. })
+            | Frame::Search(Payload { digits, place, .. })
+            | Frame::Certify(Payload { digits, place, .. })
+            | Frame::Fire(Payload { digits, place, .. })
+            | Frame::Signal(Payload { digits, place, .. })
+            | Frame::Halt(Payload { digits, place, .. })
+            | Frame::Resume(Payload { digits, place, .. })
+            | Frame::Home(Payload { digits, place, .. })
+            | Frame::Answer {
+                payload: Payload { digits, place, .. },
+                ..
+            } => (digits, place),
         }
     }
 
@@ -118,14 +97,14 @@ impl<'a> Frame<'a> {
     pub fn digits(self) -> &'a [u8]
         ensures { result.now ≡ digits_of self.entry }
     {
-        self.payload().digits
+        self.parts().0
     }
 
     // The place of the line in the input.
     pub fn place(self) -> usize
         ensures { result ≡ place_of self.entry }
     {
-        self.payload().place
+        self.parts().1
     }
 
     // What the frame says.

@@ -31,9 +31,9 @@ returns c =
     let (none, is) = c.in_ok-sum.ensures in
     let (digits, even) = sum_passes ds none in
     let long : 4 ≤ length ds = search rules in
-    let kind = c.byte.ensures ∙ sym (byte_at ds 0 (omega arith)) in
+    let kind = c.in_ok-tag.ensures ∙ c.byte.ensures ∙ sym (byte_at ds 0 (omega arith)) in
     let less : length ds - 2 - 2 ≡ length ds - 4 = omega arith in
-    let reading : Reads c.args.line.now c.args.place c.frame_of.result =
-    subst (λ l. DigitsRead l c.args.place c.frame_of.result) c.digits_in-digits.ensures
-    (reads_digits ds _ c.args.place c.byte.result c.frame_of.result (digits, even, long) (sym is ∙ c.if-sum-ne0.false) kind (ap (λ n. take n (drop 2 ds)) less) c.frame_of.ensures) in
-    record { reads = reading; writes_again = result_writes c.args.line.now c.args.place c.frame_of.result reading }
+    let reading : Reads c.args.line.now c.args.place c.frame.result =
+    subst (λ l. DigitsRead l c.args.place c.frame.result) c.digits_in-digits.ensures
+    (reads_digits ds _ c.args.place _ c.frame.result (digits, even, long) (sym is ∙ c.if-sum-ne0.false) kind (ap (λ n. take n (drop 2 ds)) less) c.frame.ensures) in
+    record { reads = reading; writes_again = result_writes c.args.line.now c.args.place c.frame.result reading }
