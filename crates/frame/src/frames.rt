@@ -12,14 +12,14 @@ use std::array;
 // The digits of a payload of N bytes, two to a byte: a part of the caller's input, with the place of its line there.
 #[derive(Clone, Copy, PartialEq, Eq, Debug)]
 pub struct Payload<'a, const N: usize> {
-    pub(crate) digits: &'a [u8],
-    pub(crate) place: usize,
+    digits: &'a [u8],
+    place: usize,
     ghost whole: { length digits.now ≡ 2 * N },
 }
 
 impl<'a, const N: usize> Payload<'a, N> {
-    // The payload of these digits, if they are as many as N bytes have.
-    pub(crate) fn of(digits: &'a [u8], place: usize) -> Result<Payload<'a, N>, Refusal>
+    // The payload of N bytes with these digits, if they are as many.
+    pub(crate) fn of(digits: &'a [u8], place: usize) -> Result<Self, Refusal>
         requires { N ≤ 17 }
         ensures { MatchResult result (λ p. (p.digits.now ≡ digits.now) × (p.place ≡ place)) (λ why. (why ≡ WrongLength) × (length digits.now ≢ 2 * N)) }
     {
@@ -42,10 +42,12 @@ impl<'a, const N: usize> Payload<'a, N> {
         requires { at + 8 ≤ N }
         ensures { result ≡ set_at (bytes_of self.entry.digits.now) at }
     {
-        let bytes = array::from_fn(|i: usize| -> u8
-            requires { at + i < N }
-            ensures { result ≡ slice_index (bytes_of self.entry.digits.now) (at + i) }
-            { self.byte(at + i) });
+        let bytes = array::from_fn(
+            |i: usize| -> u8
+                requires { at + i < N }
+                ensures { result ≡ slice_index (bytes_of self.entry.digits.now) (at + i) }
+            { self.byte(at + i) },
+        );
         u64::from_be_bytes(bytes)
     }
 }
@@ -67,4 +69,45 @@ pub enum Frame<'a> {
         to: Option<Kind>,
         payload: Payload<'a, 10>,
     },
+}
+
+impl<'a> Frame<'a> {
+    ghost use Rattle.frame.specs.Frames.{digits_of, place_of};
+
+    // The digits of the payload, and the place of the line.
+    fn parts(self) -> (&'a [u8], usize)
+        ensures digits { result.0.now ≡ digits_of self.entry }
+        ensures place { result.1 ≡ place_of self.entry }
+    {
+        match self {
+            Frame::Draw(Payload { digits, place })
+            | Frame::Arcs(Payload { digits, place })
+            | Frame::Propose(Payload { digits, place })
+            | Frame::Search(Payload { digits, place })
+            | Frame::Certify(Payload { digits, place })
+            | Frame::Fire(Payload { digits, place })
+            | Frame::Signal(Payload { digits, place })
+            | Frame::Halt(Payload { digits, place })
+            | Frame::Resume(Payload { digits, place })
+            | Frame::Home(Payload { digits, place })
+            | Frame::Answer {
+                payload: Payload { digits, place },
+                ..
+            } => (digits, place),
+        }
+    }
+
+    // The digits of the payload, a part of the input that the line was read from.
+    pub fn digits(self) -> &'a [u8]
+        ensures { result.now ≡ digits_of self.entry }
+    {
+        self.parts().0
+    }
+
+    // The place of the line in the input.
+    pub fn place(self) -> usize
+        ensures { result ≡ place_of self.entry }
+    {
+        self.parts().1
+    }
 }

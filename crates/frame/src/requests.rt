@@ -1,10 +1,10 @@
 // What a frame says, with its fields decoded.
 ghost use Rattle.std.specs.Prelude.{◌≡◌};
-ghost use Rattle.frame.specs.Frames.{kind_of, digits_of, place_of, payload_of};
+ghost use Rattle.frame.specs.Frames.{kind_of, payload_of};
 ghost use Rattle.frame.specs.Requests.{request_of};
 ghost use Rattle.frame.specs.Tags.{tag_byte};
 
-use crate::frames::{Frame, Payload};
+use crate::frames::Frame;
 use crate::kinds::Kind;
 use crate::tags::Tag;
 
@@ -43,7 +43,7 @@ pub enum Request {
     },
 }
 
-impl<'a> Frame<'a> {
+impl Frame<'_> {
     // What the kind byte of the line says.
     fn tag(self) -> Tag
         ensures { tag_byte result ≡ kind_of self.entry }
@@ -68,43 +68,6 @@ impl<'a> Frame<'a> {
         ensures { result ≡ kind_of self.entry }
     {
         u8::from(self.tag())
-    }
-
-    // The digits of the payload, and the place of the line.
-    fn parts(self) -> (&'a [u8], usize)
-        ensures digits { result.0.now ≡ digits_of self.entry }
-        ensures place { result.1 ≡ place_of self.entry }
-    {
-        match self {
-            Frame::Draw(Payload { digits, place, .. })
-            | Frame::Arcs(Payload { digits, place, .. })
-            | Frame::Propose(Payload { digits, place, .. })
-            | Frame::Search(Payload { digits, place, .. })
-            | Frame::Certify(Payload { digits, place, .. })
-            | Frame::Fire(Payload { digits, place, .. })
-            | Frame::Signal(Payload { digits, place, .. })
-            | Frame::Halt(Payload { digits, place, .. })
-            | Frame::Resume(Payload { digits, place, .. })
-            | Frame::Home(Payload { digits, place, .. })
-            | Frame::Answer {
-                payload: Payload { digits, place, .. },
-                ..
-            } => (digits, place),
-        }
-    }
-
-    // The digits of the payload, a part of the input that the line was read from.
-    pub fn digits(self) -> &'a [u8]
-        ensures { result.now ≡ digits_of self.entry }
-    {
-        self.parts().0
-    }
-
-    // The place of the line in the input.
-    pub fn place(self) -> usize
-        ensures { result ≡ place_of self.entry }
-    {
-        self.parts().1
     }
 
     // What the frame says.
