@@ -20,7 +20,7 @@ pub struct Payload<'a, const N: usize> {
 impl<'a, const N: usize> Payload<'a, N> {
     // The payload of N bytes with these digits, if they are as many.
     pub(crate) fn of(digits: &'a [u8], place: usize) -> Result<Self, Refusal>
-        requires { N ≤ 17 }
+        requires few { N ≤ 17 }
         ensures { MatchResult result (λ p. (p.digits.now ≡ digits.now) × (p.place ≡ place)) (λ why. (why ≡ WrongLength) × (length digits.now ≢ 2 * N)) }
     {
         if digits.len() != 2 * N {
@@ -52,6 +52,7 @@ impl<'a, const N: usize> Payload<'a, N> {
     }
 }
 
+// A line by its kind, with a payload as long as a line of that kind has.
 #[derive(Clone, Copy, PartialEq, Eq, Debug)]
 pub enum Frame<'a> {
     Draw(Payload<'a, 10>),
