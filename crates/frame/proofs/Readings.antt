@@ -1,13 +1,14 @@
 -- The faults of a line, one after another.
-use Rattle.std.proofs.Common.{◌≡◌, ℕ, ◌-◌, ◌/◌, ◌%◌, ◌<◌, ◌≤◌, Bool, true, not, ◌||◌, eqb, ltb, List, [], ◌∷◌, length, take, drop, Ok, Err, sum, Result, sym, refl, ap, ◌∙◌, ap₂, arith}
-use Rattle.std.proofs.lemmas.List.{length-drop, length-take-le}
+use Rattle.std.proofs.Common.{◌≡◌, ℕ, ◌-◌, ◌/◌, ◌%◌, ◌<◌, ◌≤◌, Bool, true, not, ◌||◌, eqb, ltb, List, [], ◌∷◌, length, take, drop, is_some, None, Ok, Err, sum, Result, sym, refl, ap, ◌∙◌, ap₂, arith}
+use Rattle.std.proofs.lemmas.List.{take_rest, length-drop, length-take-le}
 use Rattle.std.proofs.lemmas.Bool.{ne_eqb, eq-eqb, eqb-false, le-ltb, lt-ltb, not-false}
 use Rattle.std.proofs.Math.Bool.{or-true}
 use Rattle.refusal.specs.declared.Refusal.{Refusal}
-use Rattle.refusal.specs.declared.Refusal.TheVariants.{Foreign, OddOrShort, WrongCheck}
+use Rattle.refusal.specs.declared.Refusal.TheVariants.{Foreign, OddOrShort, WrongCheck, UnknownKind}
 use Rattle.refusal.specs.Outcomes.{Outcome, refuse_if, Tells}
 use Rattle.refusal.proofs.Outcomes.{refuse_applies, refuse_passed, accepted_past_if, tells_same}
 use Rattle.frame.specs.Digits.{all_digits, bytes_of}
+use Rattle.frame.specs.Kinds.{payload_length}
 use Rattle.frame.specs.Lines.{kind_in, check_kind, check_digits}
 use Rattle.frame.specs.declared.frames.Frame.{Frame}
 use Rattle.frame.specs.Frames.{kind_of, digits_of, place_of, DigitsRead}
@@ -42,6 +43,9 @@ too_few ds digits few =
     refuse_passed (not (all_digits ds)) Foreign _ (ap not digits)
     ∙ refuse_applies _ OddOrShort _ (ap (λ b. eqb (length ds % 2) 1 || b) (lt-ltb (length ds) 4 few) ∙ or-true (eqb (length ds % 2) 1))
 
+pub unknown_kind : (ds : List ℕ) → Paired ds → sum (bytes_of ds) % 256 ≡ 0 → payload_length (kind_in ds) ≡ None → check_digits ds ≡ Err UnknownKind
+unknown_kind ds paired right none = right_check ds paired right ∙ refuse_applies (not (is_some (payload_length (kind_in ds)))) UnknownKind _ (ap (λ o. not (is_some o)) none)
+
 pub length_bytes : (ds : List ℕ) → length (bytes_of ds) ≡ length ds / 2
 length_bytes [] = refl
 length_bytes (a ∷ []) = refl
@@ -54,6 +58,12 @@ sum_passes ds none =
     let (even, last) = accepted_past_if (eqb (length ds % 2) 1) OddOrShort (Ok tt) later in
     let ne : length ds % 2 ≡ 1 → ⊥ = eqb-false _ 1 even in
     (not-false (all_digits ds) digits, omega arith)
+
+-- the payload lies between two digits and two digits
+pub middle : (ds : List ℕ) → take (length (take (length ds - 2) (drop 2 ds)) - 2) (take (length ds - 2) (drop 2 ds)) ≡ take (length ds - 4) (drop 2 ds)
+middle ds =
+    let shorter : length (drop 2 ds) - 2 ≡ length ds - 4 = omega (arith, length-drop 2 ds) in
+    ap (λ l. take (length l - 2) l) (take_rest ds 2) ∙ ap (λ n. take n (drop 2 ds)) shorter
 
 -- what a kind and a payload are taken for is what the digits are read as
 pub reads_digits : (ds payload : List ℕ) (place kind : ℕ) (r : Result Frame Refusal) → Paired ds → sum (bytes_of ds) % 256 ≡ 0 → kind ≡ kind_in ds → payload ≡ take (length ds - 4) (drop 2 ds)

@@ -1,17 +1,14 @@
 // Hexadecimal digits, read and written.
-ghost use Rattle.std.specs.Prelude.{◌≡◌, ◌+◌, ◌*◌, ◌<◌, Some, None, MatchResult};
-ghost use Rattle.refusal.specs.declared.Refusal.TheVariants.{Foreign};
+ghost use Rattle.std.specs.Prelude.{◌≡◌, ◌+◌, ◌*◌, ◌<◌};
 ghost use Rattle.frame.specs.Digits.{digit_of, number_of, char_of};
 
-use refusal::Refusal;
-
-pub(crate) fn digit(c: u8) -> Result<u8, Refusal>
-    ensures { MatchResult result (λ d. digit_of c ≡ Some d) (λ why. (why ≡ Foreign) × (digit_of c ≡ None)) }
+pub(crate) fn digit(c: u8) -> Option<u8>
+    ensures { result ≡ digit_of c }
 {
     match c {
-        b'0'..=b'9' => Ok(c - b'0'),
-        b'A'..=b'F' => Ok(c - b'A' + 10),
-        _ => Err(Refusal::Foreign),
+        b'0'..=b'9' => Some(c - b'0'),
+        b'A'..=b'F' => Some(c - b'A' + 10),
+        _ => None,
     }
 }
 

@@ -27,51 +27,47 @@ fn sum_of(digits: &[u8]) -> Result<u8, Refusal>
     let mut sum = 0u8;
     let mut rest = digits;
     while let [high, low, more @ ..] = rest {
-        let high = digit(*high)?;
-        let low = digit(*low)?;
+        let Some(high) = digit(*high) else {
+            return Err(Refusal::Foreign);
+        };
+        let Some(low) = digit(*low) else {
+            return Err(Refusal::Foreign);
+        };
         sum = sum.wrapping_add(high * 16 + low);
         rest = more;
     }
     let [last, ..] = rest else {
         return Ok(sum);
     };
-    digit(*last)?;
+    let Some(_) = digit(*last) else {
+        return Err(Refusal::Foreign);
+    };
     Err(Refusal::OddOrShort)
 }
 
 impl Tag {
-    // The frame of a line with this tag.
-    fn frame<'a>(self, payload: Payload<'a>) -> Frame<'a>
-        ensures kind { kind_of result ≡ tag_byte self }
-        ensures digits { digits_of result ≡ payload.entry.digits.now }
-        ensures place { place_of result ≡ payload.entry.place }
+    // The frame of a line with this tag, if its payload is as long as the tag asks.
+    fn frame<'a>(self, digits: &'a [u8], place: usize) -> Result<Frame<'a>, Refusal>
+        requires { length digits.now % 2 ≡ 0 }
+        ensures { Tells (check_kind (tag_byte self) (length digits.now / 2) (Fine tt)) result (λ f. (kind_of f ≡ tag_byte self) × (digits_of f ≡ digits.now) × (place_of f ≡ place)) (Unit {0}) }
     {
-        match self {
-            Tag::Asks(Kind::Draw) => Frame::Draw(payload),
-            Tag::Asks(Kind::Arcs) => Frame::Arcs(payload),
-            Tag::Asks(Kind::Propose) => Frame::Propose(payload),
-            Tag::Asks(Kind::Search) => Frame::Search(payload),
-            Tag::Asks(Kind::Certify) => Frame::Certify(payload),
-            Tag::Asks(Kind::Fire) => Frame::Fire(payload),
-            Tag::Asks(Kind::Signal) => Frame::Signal(payload),
-            Tag::Asks(Kind::Halt) => Frame::Halt(payload),
-            Tag::Asks(Kind::Resume) => Frame::Resume(payload),
-            Tag::Asks(Kind::Home) => Frame::Home(payload),
-            Tag::Answers(to) => Frame::Answer { to, payload },
-        }
+        Ok(match self {
+            Tag::Asks(Kind::Draw) => Frame::Draw(Payload::of(digits, place)?),
+            Tag::Asks(Kind::Arcs) => Frame::Arcs(Payload::of(digits, place)?),
+            Tag::Asks(Kind::Propose) => Frame::Propose(Payload::of(digits, place)?),
+            Tag::Asks(Kind::Search) => Frame::Search(Payload::of(digits, place)?),
+            Tag::Asks(Kind::Certify) => Frame::Certify(Payload::of(digits, place)?),
+            Tag::Asks(Kind::Fire) => Frame::Fire(Payload::of(digits, place)?),
+            Tag::Asks(Kind::Signal) => Frame::Signal(Payload::of(digits, place)?),
+            Tag::Asks(Kind::Halt) => Frame::Halt(Payload::of(digits, place)?),
+            Tag::Asks(Kind::Resume) => Frame::Resume(Payload::of(digits, place)?),
+            Tag::Asks(Kind::Home) => Frame::Home(Payload::of(digits, place)?),
+            Tag::Answers(to) => Frame::Answer {
+                to,
+                payload: Payload::of(digits, place)?,
+            },
+        })
     }
-}
-
-// The frame of a kind byte with the digits of its payload.
-fn frame_of<'a>(kind: u8, digits: &'a [u8], place: usize) -> Result<Frame<'a>, Refusal>
-    requires { length digits.now % 2 ≡ 0 }
-    ensures { Tells (check_kind kind (length digits.now / 2) (Fine tt)) result (λ f. (kind_of f ≡ kind) × (digits_of f ≡ digits.now) × (place_of f ≡ place)) (Unit {0}) }
-{
-    let tag = Tag::try_from(kind)?;
-    if digits.len() / 2 != tag.payload_length() {
-        return Err(Refusal::WrongLength);
-    }
-    Ok(tag.frame(Payload { digits, place }))
 }
 
 // The frame of a line that stands at `place` in the input, or what is wrong with the line.
@@ -81,11 +77,15 @@ pub fn read<'a>(line: &'a [u8], place: usize) -> Result<Frame<'a>, Refusal>
 {
     let digits = digits_in(line);
     let sum = sum_of(digits)?;
-    let [high, low, payload @ .., _, _] = digits else {
+    let [high, low, rest @ ..] = digits else {
+        return Err(Refusal::OddOrShort);
+    };
+    let [payload @ .., _, _] = rest else {
         return Err(Refusal::OddOrShort);
     };
     if sum != 0 {
         return Err(Refusal::WrongCheck);
     }
-    frame_of(byte(*high, *low), payload, place)
+    let tag = Tag::try_from(byte(*high, *low))?;
+    tag.frame(payload, place)
 }

@@ -1,15 +1,12 @@
 // What a frame says, with its fields decoded.
-ghost use Rattle.std.specs.Prelude.{◌≡◌, ◌<◌, ◌≤◌, length, slice_index};
-ghost use Rattle.frame.specs.Digits.{bytes_of};
-ghost use Rattle.frame.specs.Frames.{kind_of, digits_of, place_of, payload_of};
-ghost use Rattle.frame.specs.Requests.{set_at, request_of};
+ghost use Rattle.std.specs.Prelude.{◌≡◌};
+ghost use Rattle.frame.specs.Frames.{kind_of, payload_of};
+ghost use Rattle.frame.specs.Requests.{request_of};
 ghost use Rattle.frame.specs.Tags.{tag_byte};
 
-use crate::digits::byte;
-use crate::frames::{Frame, Payload};
+use crate::frames::Frame;
 use crate::kinds::Kind;
 use crate::tags::Tag;
-use std::array;
 
 #[derive(Clone, Copy, PartialEq, Eq, Debug)]
 pub enum Request {
@@ -46,29 +43,7 @@ pub enum Request {
     },
 }
 
-impl Payload<'_> {
-    // The byte at `at`; 0 where there is none, as never for a field of the payload's kind.
-    fn byte(self, at: usize) -> u8
-        requires { at < 32 }
-        ensures { result ≡ slice_index (bytes_of self.entry.digits.now) at }
-    {
-        let Some(pair) = self.digits.get(2 * at..2 * at + 2) else {
-            return 0;
-        };
-        byte(pair[0], pair[1])
-    }
-
-    // The set whose 8 bytes begin at `at`, highest first.
-    fn set(self, at: usize) -> u64
-        requires { at ≤ 9 }
-        ensures { result ≡ set_at (bytes_of self.entry.digits.now) at }
-    {
-        let bytes = array::from_fn(|i| self.byte(at + i));
-        u64::from_be_bytes(bytes)
-    }
-}
-
-impl<'a> Frame<'a> {
+impl Frame<'_> {
     // What the kind byte of the line says.
     fn tag(self) -> Tag
         ensures { tag_byte result ≡ kind_of self.entry }
@@ -93,39 +68,6 @@ impl<'a> Frame<'a> {
         ensures { result ≡ kind_of self.entry }
     {
         u8::from(self.tag())
-    }
-
-    fn payload(self) -> Payload<'a>
-        ensures digits { result.digits.now ≡ digits_of self.entry }
-        ensures place { result.place ≡ place_of self.entry }
-    {
-        match self {
-            Frame::Draw(payload)
-            | Frame::Arcs(payload)
-            | Frame::Propose(payload)
-            | Frame::Search(payload)
-            | Frame::Certify(payload)
-            | Frame::Fire(payload)
-            | Frame::Signal(payload)
-            | Frame::Halt(payload)
-            | Frame::Resume(payload)
-            | Frame::Home(payload)
-            | Frame::Answer { payload, .. } => payload,
-        }
-    }
-
-    // The digits of the payload, a part of the input that the line was read from.
-    pub fn digits(self) -> &'a [u8]
-        ensures { result.now ≡ digits_of self.entry }
-    {
-        self.payload().digits
-    }
-
-    // The place of the line in the input.
-    pub fn place(self) -> usize
-        ensures { result ≡ place_of self.entry }
-    {
-        self.payload().place
     }
 
     // What the frame says.

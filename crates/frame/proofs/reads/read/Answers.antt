@@ -1,10 +1,11 @@
-use Rattle.std.proofs.Common.{◌≡◌, ◌-◌, ◌<◌, ◌≤◌, length, take, drop, Err, sym, ap, ◌∙◌, subst, arith, rules}
-use Rattle.refusal.specs.declared.Refusal.TheVariants.{OddOrShort, WrongCheck}
+use Rattle.std.proofs.Common.{◌≡◌, ◌<◌, ◌≤◌, length, None, Err, sym, ◌∙◌, subst, arith, rules}
+use Rattle.refusal.specs.declared.Refusal.TheVariants.{OddOrShort, WrongCheck, UnknownKind}
+use Rattle.frame.specs.Kinds.{payload_length}
 use Rattle.frame.specs.Lines.{check_digits}
 use Rattle.frame.specs.Frames.{DigitsRead, Reads}
 use Rattle.frame.proofs.Fields.{byte_at}
 use Rattle.frame.proofs.Again.{result_writes}
-use Rattle.frame.proofs.Readings.{sum_passes, too_few, wrong_check, reads_digits}
+use Rattle.frame.proofs.Readings.{sum_passes, too_few, wrong_check, unknown_kind, middle, reads_digits}
 use Rattle.frame.proofs.reads.read.Goals as goal
 
 pub returns-in_default-clause-reads : goal.returns-in_default-clause-reads
@@ -25,15 +26,25 @@ returns-then-sum-ne0 c =
       writes_again = tt;
     }
 
+pub returns-in_err-tag-clause-reads : goal.returns-in_err-tag-clause-reads
+returns-in_err-tag-clause-reads c =
+    let ds = c.digits_in-digits.result.now in
+    let (none, is) = c.in_ok-sum.ensures in
+    let (digits, even) = sum_passes ds none in
+    let long : 4 ≤ length ds = search rules in
+    let (why, unknown) = c.in_err-tag.ensures in
+    let told : c.from_residual-in_err-tag.result ≡ Err UnknownKind = search rules in
+    let kind = c.byte.ensures ∙ sym (byte_at ds 0 (omega arith)) in
+    rw told (subst (λ l. check_digits l ≡ Err UnknownKind) c.digits_in-digits.ensures (unknown_kind ds (digits, even, long) (sym is ∙ c.if-sum-ne0.false) (subst (λ k. payload_length k ≡ None) kind unknown)), tt)
+
 pub returns : goal.returns
 returns c =
     let ds = c.digits_in-digits.result.now in
     let (none, is) = c.in_ok-sum.ensures in
     let (digits, even) = sum_passes ds none in
     let long : 4 ≤ length ds = search rules in
-    let kind = c.byte.ensures ∙ sym (byte_at ds 0 (omega arith)) in
-    let less : length ds - 2 - 2 ≡ length ds - 4 = omega arith in
-    let reading : Reads c.args.line.now c.args.place c.frame_of.result =
-    subst (λ l. DigitsRead l c.args.place c.frame_of.result) c.digits_in-digits.ensures
-    (reads_digits ds _ c.args.place c.byte.result c.frame_of.result (digits, even, long) (sym is ∙ c.if-sum-ne0.false) kind (ap (λ n. take n (drop 2 ds)) less) c.frame_of.ensures) in
-    record { reads = reading; writes_again = result_writes c.args.line.now c.args.place c.frame_of.result reading }
+    let kind = c.in_ok-tag.ensures ∙ c.byte.ensures ∙ sym (byte_at ds 0 (omega arith)) in
+    let reading : Reads c.args.line.now c.args.place c.frame.result =
+    subst (λ l. DigitsRead l c.args.place c.frame.result) c.digits_in-digits.ensures
+    (reads_digits ds _ c.args.place _ c.frame.result (digits, even, long) (sym is ∙ c.if-sum-ne0.false) kind (middle ds) c.frame.ensures) in
+    record { reads = reading; writes_again = result_writes c.args.line.now c.args.place c.frame.result reading }
