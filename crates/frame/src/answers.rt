@@ -28,7 +28,7 @@ impl Request {
     }
 }
 
-// The answer to a line of a kind, or to one that has none, as a line.
+// The answer to a line of a kind, or to one that has none, as a line. Its result and detail are bytes: a line may carry any.
 pub fn answer(to: Option<Kind>, res: u8, detail: u8, lit: u64) -> [u8; 25]
     ensures line { result ≡ answer_line to res detail lit }
     ensures reads_again { ReadsAnswer result to res detail lit }

@@ -1,4 +1,4 @@
-// Hexadecimal digits, read and written.
+// Hexadecimal digits, read and written: characters and parts of a byte, so no types of their own.
 ghost use Rattle.std.specs.Prelude.{◌≡◌, ◌+◌, ◌*◌, ◌<◌};
 ghost use Rattle.frame.specs.Digits.{digit_of, number_of, char_of};
 

@@ -37,6 +37,7 @@ pub enum Request {
     Home,
     Answer {
         to: Option<Kind>,
+        // the number of a refusal or 0; a byte, since a line may carry any
         result: u8,
         detail: u8,
         lit: u64,
@@ -63,7 +64,7 @@ impl Frame<'_> {
         }
     }
 
-    // The kind byte of the line.
+    // The kind byte of the line, as it stands there.
     pub fn kind(self) -> u8
         ensures { result ≡ kind_of self.entry }
     {

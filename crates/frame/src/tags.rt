@@ -61,7 +61,7 @@ impl Tag {
     }
 }
 
-// How many bytes the payload of a kind has, if there is such a kind.
+// How many bytes the payload of a kind has, if there is such a kind: the byte is one that a line may begin with.
 pub fn payload_length(kind: u8) -> Option<usize>
     ensures { result ≡ payload_length kind }
 {

@@ -37,6 +37,7 @@ pub(crate) fn put_line(tag: Tag, payload: &[u8], memory: &mut [u8])
 }
 
 // The line of a kind and its payload at the front of `memory`; answers how long it is.
+// The kind is a byte of the caller's, which may stand for no kind: that is refused.
 pub fn write(kind: u8, payload: &[u8], memory: &mut [u8]) -> Result<usize, Refusal>
     ensures writes { Writes kind payload.now memory.old result memory.new }
     ensures reads_again { IfOk result (λ n. ReadsAs (take n memory.new) kind payload.now) }

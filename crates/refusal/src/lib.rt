@@ -85,9 +85,8 @@ impl Refusal {
     {
         match self {
             Refusal::NotEvenOrNotThin { transition } => transition,
-            Refusal::Bare { place } => place,
-            Refusal::Unlit { place } => place,
-            Refusal::Occupied { place } => place,
+            Refusal::Bare { place } | Refusal::Unlit { place } | Refusal::Occupied { place } =>
+                place,
             Refusal::Shut { channel } => channel,
             Refusal::Spent { stage } => stage,
             _ => 0,

@@ -15,6 +15,7 @@ impl fmt::Display for Braced {
     ghost output = { λ set. Some (members_of set.0) };
 
     fn fmt<W: fmt::Write>(&self, f: &mut fmt::Formatter<W>) -> fmt::Result {
+        // a loop and no chain: each turn writes to the same writer, and may fail
         f.write_str("{")?;
         for place in 0..64 {
             if has(self.0, place) {

@@ -26,6 +26,7 @@ fn run(rt: &HostRuntime) -> anyhow::Result<()> {
         rt.print(HELP)?;
         return Ok(());
     };
+    // one command and the text of help need no table
     match command.as_str() {
         "check" => check(rt),
         _ => {
