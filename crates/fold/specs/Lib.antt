@@ -1,4 +1,3 @@
-pub mod Notes
 pub mod Fusions
 pub mod Steps
 pub mod Foldings

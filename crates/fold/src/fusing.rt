@@ -8,6 +8,7 @@ ghost use Rattle.fold.specs.Steps.{fusion_of, Applies, emptied, step_of};
 use crate::finding::{next_fusion, only_one};
 use crate::folded::Folded;
 use crate::fusion::Fusion;
+use crate::note::Note;
 use crate::replacing::replace;
 use crate::side::Side;
 use crate::step::Step;
@@ -15,7 +16,7 @@ use arrayvec::ArrayVec;
 use net::{Net, lowest};
 
 // The transition that loses its arcs by the fusion, and what the fusion notes.
-fn plan(net: &Net, fusion: Fusion) -> (u8, Step)
+fn plan(net: &Net, fusion: Fusion) -> (u8, Note)
     requires { Applies (drawn net.now) fusion }
     ensures transition { result.0 ≡ emptied (drawn net.now) fusion }
     ensures step { result.1 ≡ step_of (drawn net.now) fusion }
@@ -24,12 +25,22 @@ fn plan(net: &Net, fusion: Fusion) -> (u8, Step)
         Fusion::Places { transition } => {
             let place = lowest(net.gives(transition)).unwrap_or(0);
             let set = net.takes(transition);
-            (transition, Step { place, set })
+            (
+                transition,
+                Note {
+                    step: Step { place, set },
+                },
+            )
         }
         Fusion::Transitions { place } => {
             let taker = only_one(net, Side::Taken, place).unwrap_or(0);
             let set = net.gives(taker);
-            (taker, Step { place, set })
+            (
+                taker,
+                Note {
+                    step: Step { place, set },
+                },
+            )
         }
     }
 }
@@ -55,9 +66,9 @@ impl Folded {
         ensures covers { HasCover (folded_net self.new) ↔ HasCover (folded_original self.new) }
     {
         let fusion = next_fusion(&self.folded)?;
-        let (transition, step) = plan(&self.folded, fusion);
-        self.folded = replace(&self.folded, transition, step);
-        self.steps.push(step);
+        let (transition, note) = plan(&self.folded, fusion);
+        self.folded = replace(&self.folded, transition, note);
+        self.steps.push(note);
         Some(fusion)
     }
 }

@@ -5,6 +5,7 @@ mod finding;
 mod folded;
 mod fusing;
 mod fusion;
+mod note;
 mod reading;
 mod replacing;
 mod side;

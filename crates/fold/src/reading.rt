@@ -36,6 +36,6 @@ impl Folded {
     pub fn step(&self, k: u8) -> Option<Step>
         ensures { result ≡ slice_get (folded_steps self.now) k }
     {
-        self.steps.get(k as usize).copied()
+        self.steps.get(k as usize).map(|note| note.step)
     }
 }

@@ -4,25 +4,27 @@ ghost use Rattle.net.specs.Drawings.{with_arcs, arcs_outcome};
 ghost use Rattle.net.specs.Nets.{drawn, Kept};
 ghost use Rattle.fold.specs.Fusions.{swapped, replaced};
 
+use crate::note::Note;
 use crate::step::Step;
 use net::{Net, has};
 
 // The set with the noted places in place of the noted place, where that is in it.
-fn swap(set: u64, step: Step) -> u64
-    ensures { result ≡ swapped step.place step.set set }
+fn swap(set: u64, note: Note) -> u64
+    ensures { result ≡ swapped note.place note.set set }
 {
-    if has(set, step.place) {
-        (set ^ (set & (1 << step.place))) | step.set
+    let Step { place, set: noted } = note.step;
+    if has(set, place) {
+        (set ^ (set & (1 << place))) | noted
     } else {
         set
     }
 }
 
 // The marks, where a mark on the noted place moves to the noted places.
-fn moved_marks(net: &Net, step: Step) -> u64
-    ensures { result ≡ swapped step.place step.set (drawn net.now).marks }
+fn moved_marks(net: &Net, note: Note) -> u64
+    ensures { result ≡ swapped note.place note.set (drawn net.now).marks }
 {
-    swap(net.marks(), step)
+    swap(net.marks(), note)
 }
 
 // Gives arcs that the net does not refuse.
@@ -34,20 +36,20 @@ fn give(net: &mut Net, transition: u8, taken: u64, given: u64)
 }
 
 // The net with the noted places in place of the noted place in every set, and without the arcs of the transition.
-pub(crate) fn replace(net: &Net, transition: u8, step: Step) -> Net
-    requires { Kept (replaced (drawn net.now) transition step.place step.set) }
-    ensures { drawn result ≡ replaced (drawn net.now) transition step.place step.set }
+pub(crate) fn replace(net: &Net, transition: u8, note: Note) -> Net
+    requires { Kept (replaced (drawn net.now) transition note.place note.set) }
+    ensures { drawn result ≡ replaced (drawn net.now) transition note.place note.set }
 {
-    // a loop and no chain: each turn changes the net that the next one is given
+    // a loop and no `fold`: its invariant says what the net is at each turn, which a closure would ask of every net
     let mut after = Net::new();
-    let _ = after.draw(net.places(), net.transitions(), moved_marks(net, step));
+    let _ = after.draw(net.places(), net.transitions(), moved_marks(net, note));
     for t in 0..net.transitions() {
         if t != transition {
             give(
                 &mut after,
                 t,
-                swap(net.takes(t), step),
-                swap(net.gives(t), step),
+                swap(net.takes(t), note),
+                swap(net.gives(t), note),
             );
         }
     }

@@ -4,16 +4,18 @@ ghost use Rattle.fold.specs.Foldings.{folded_net, folded_steps, unfold_outcome, 
 ghost use Rattle.fold.specs.Steps.{put_back};
 
 use crate::folded::Folded;
+use crate::note::Note;
 use crate::step::Step;
 use net::within;
 use refusal::Refusal;
 
 // The set with the noted place in it where it meets the noted set, and without that place otherwise.
-fn restored(set: u64, step: Step) -> u64
-    ensures { result ≡ put_back step.place step.set set }
+fn restored(set: u64, note: Note) -> u64
+    ensures { result ≡ put_back note.place note.set set }
 {
-    let place = 1 << step.place;
-    if step.set & set == 0 {
+    let Step { place, set: noted } = note.step;
+    let place = 1 << place;
+    if noted & set == 0 {
         set ^ (set & place)
     } else {
         set | place
@@ -40,7 +42,7 @@ impl Folded {
             self.steps
                 .iter()
                 .rev()
-                .fold(set, |set, step| restored(set, *step)),
+                .fold(set, |set, note| restored(set, *note)),
         )
     }
 }

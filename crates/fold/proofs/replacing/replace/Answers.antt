@@ -10,7 +10,7 @@ use Rattle.fold.proofs.replacing.replace.Goals.{then-t-transition, else-t-transi
 pub loop-t-init : goal.loop-t-init
 loop-t-init c =
     let net = c.args.net.now in
-    let step = c.args.step in
+    let step = c.args.note in
     let n = replaced (drawn net) c.args.transition step.place step.set in
     part_none n c.new-after.result c.draw.new.self c.places.result c.transitions.result c.moved_marks.result c.draw.result c.requires net.placed net.counted
     c.places.ensures c.transitions.ensures c.moved_marks.ensures c.draw.ensures.answer c.draw.ensures.after
@@ -18,7 +18,7 @@ loop-t-init c =
 pub loop-t-preserved : goal.loop-t-preserved
 loop-t-preserved c =
     let net = c.args.net.now in
-    let step = c.args.step in
+    let step = c.args.note in
     let x = c.args.transition in
     let t = c.loop-t.t in
     let n = replaced (drawn net) x step.place step.set in
@@ -37,5 +37,5 @@ loop-t-preserved c =
 
 pub returns : goal.returns
 returns c =
-    let n = replaced (drawn c.args.net.now) c.args.transition c.args.step.place c.args.step.set in
+    let n = replaced (drawn c.args.net.now) c.args.transition c.args.note.place c.args.note.set in
     part_all n c.loop-t.t (drawn c.loop-t.after) c.requires (omega arith) c.loop-t.invariant

@@ -4,4 +4,4 @@ use Rattle.fold.proofs.Parts.{Replaced-below}
 use Rattle.fold.proofs.replacing.replace.Given as goal
 
 abbrev pub invariant-loop-t : goal.invariant-loop-t
-invariant-loop-t l = Replaced-below (replaced (drawn l.net) l.transition l.step.place l.step.set) l.t (drawn l.after)
+invariant-loop-t l = Replaced-below (replaced (drawn l.net) l.transition l.note.place l.note.set) l.t (drawn l.after)
