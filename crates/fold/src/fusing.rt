@@ -25,22 +25,14 @@ fn plan(net: &Net, fusion: Fusion) -> (u8, Note)
         Fusion::Places { transition } => {
             let place = lowest(net.gives(transition)).unwrap_or(0);
             let set = net.takes(transition);
-            (
-                transition,
-                Note {
-                    step: Step { place, set },
-                },
-            )
+            let step = Step { place, set };
+            (transition, Note { step })
         }
         Fusion::Transitions { place } => {
             let taker = only_one(net, Side::Taken, place).unwrap_or(0);
             let set = net.gives(taker);
-            (
-                taker,
-                Note {
-                    step: Step { place, set },
-                },
-            )
+            let step = Step { place, set };
+            (taker, Note { step })
         }
     }
 }

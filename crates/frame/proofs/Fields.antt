@@ -1,6 +1,6 @@
 -- One byte among digits, and the number that several make.
-use Rattle.std.proofs.Common.{◌≡◌, ℕ, zero, suc, ◌+◌, ◌*◌, ◌<◌, ◌≤◌, List, [], ◌∷◌, length, get_or, refl, ◌∙◌, ap₂, arith}
-use Rattle.frame.specs.Digits.{number_of, bytes_of}
+use Rattle.std.proofs.Common.{◌≡◌, ℕ, zero, suc, ◌+◌, ◌*◌, ◌<◌, ◌≤◌, List, [], ◌∷◌, length, get_or, unwrap_or, Some, sym, refl, ap, ◌∙◌, ap₂, arith}
+use Rattle.frame.specs.Digits.{digit_of, number_of, bytes_of}
 use Rattle.std.specs.Int.{from_be_bytes, w64}
 use Rattle.frame.specs.Requests.{number_from, set_at}
 
@@ -26,3 +26,7 @@ set_from_bytes bytes ys at each =
     let g = each 6 (omega arith) in
     let h = each 7 (omega arith) in
     omega arith
+
+-- two characters that are digits stand for this byte
+pub two_digits : (a b high low : ℕ) → digit_of a ≡ Some high → digit_of b ≡ Some low → high * 16 + low ≡ number_of a * 16 + number_of b
+two_digits a b high low x y = ap₂ (λ h l. h * 16 + l) (sym (ap (λ o. unwrap_or o 0) x)) (sym (ap (λ o. unwrap_or o 0) y))

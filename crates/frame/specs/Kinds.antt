@@ -1,7 +1,7 @@
 -- The kinds of lines.
 --   byte_of         the byte of a kind
 --   kind_from       the kind of a byte, if it has one
---   name_of         a kind in a word or two, in ASCII
+--   name_of         a kind in a few words, in ASCII
 --   payload_length  how many bytes the payload of a line has by the byte of its kind, if there is such a kind of line
 use Rattle.std.specs.Prelude.{ℕ, cond, ◌&&◌, Some, None, Option, ◌==◌, nat_le, List, codes}
 use Rattle.frame.specs.declared.kinds.Kind.{Kind}

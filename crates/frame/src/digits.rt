@@ -12,7 +12,7 @@ pub(crate) fn digit(c: u8) -> Option<u8>
     }
 }
 
-// The number of a digit, as it is known to be.
+// The number of a character that is known to be a digit.
 fn number(c: u8) -> u8
     ensures value { result ≡ number_of c }
     ensures bound { result < 16 }
@@ -20,7 +20,7 @@ fn number(c: u8) -> u8
     digit(c).unwrap_or(0)
 }
 
-// The byte of two digits, as they are known to be.
+// The byte of two such characters.
 pub(crate) fn byte(high: u8, low: u8) -> u8
     ensures { result ≡ number_of high * 16 + number_of low }
 {

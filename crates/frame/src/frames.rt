@@ -10,7 +10,7 @@ use refusal::Refusal;
 use std::array;
 
 // The digits of a payload of N bytes, two to a byte: a part of the caller's input, with the place of its line there.
-#[derive(Clone, Copy, PartialEq, Eq, Debug)]
+#[derive(Clone, Copy, Debug)]
 pub struct Payload<'a, const N: usize> {
     digits: &'a [u8],
     place: usize,
@@ -18,7 +18,7 @@ pub struct Payload<'a, const N: usize> {
 }
 
 impl<'a, const N: usize> Payload<'a, N> {
-    // The payload of N bytes with these digits, if they are as many.
+    // The payload of N bytes with these digits, if there are 2 N of them.
     pub(crate) fn of(digits: &'a [u8], place: usize) -> Result<Self, Refusal>
         requires few { N ≤ 17 }
         ensures { MatchResult result (λ p. (p.digits.now ≡ digits.now) × (p.place ≡ place)) (λ why. (why ≡ WrongLength) × (length digits.now ≢ 2 * N)) }
@@ -53,7 +53,7 @@ impl<'a, const N: usize> Payload<'a, N> {
 }
 
 // A line by its kind, with a payload as long as a line of that kind has.
-#[derive(Clone, Copy, PartialEq, Eq, Debug)]
+#[derive(Clone, Copy, Debug)]
 pub enum Frame<'a> {
     Draw(Payload<'a, 10>),
     Arcs(Payload<'a, 17>),

@@ -64,7 +64,7 @@ impl From<Kind> for u8 {
 }
 
 impl Kind {
-    // The kind in a word or two.
+    // The kind in a few words.
     pub fn name(self) -> &'static str
         ensures { result.now ≡ name_of self }
     {

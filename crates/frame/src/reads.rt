@@ -7,7 +7,7 @@ ghost use Rattle.frame.specs.Lines.{digits_in, line_of, check_kind};
 ghost use Rattle.frame.specs.Frames.{kind_of, digits_of, place_of, payload_of, Reads};
 ghost use Rattle.frame.specs.Tags.{tag_byte};
 
-use crate::digits::{byte, digit};
+use crate::digits::digit;
 use crate::frames::{Frame, Payload};
 use crate::kinds::Kind;
 use crate::tags::Tag;
@@ -86,6 +86,12 @@ pub fn read<'a>(line: &'a [u8], place: usize) -> Result<Frame<'a>, Refusal>
     if sum != 0 {
         return Err(Refusal::WrongCheck);
     }
-    let tag = Tag::try_from(byte(*high, *low))?;
+    let Some(high) = digit(*high) else {
+        return Err(Refusal::Foreign);
+    };
+    let Some(low) = digit(*low) else {
+        return Err(Refusal::Foreign);
+    };
+    let tag = Tag::try_from(high * 16 + low)?;
     tag.frame(payload, place)
 }

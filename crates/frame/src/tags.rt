@@ -7,15 +7,15 @@ ghost use Rattle.frame.specs.Tags.{tag_byte};
 use crate::kinds::Kind;
 use refusal::Refusal;
 
-// What the kind byte of a line says: it asks for something, or answers a line of a kind, or one that has none, as an
-// unreadable line or itself an answer.
+// What the kind byte of a line says: the line asks for something, or answers a line. That line had a kind, or none where
+// it was unreadable or itself an answer.
 #[derive(Clone, Copy, PartialEq, Eq, Debug)]
 pub(crate) enum Tag {
     Asks(Kind),
     Answers(Option<Kind>),
 }
 
-// What the byte of an answer has over the byte of the kind that it answers.
+// The byte of an answer is so much above that of the kind that it answers.
 const ANSWER: u8 = 128;
 
 impl TryFrom<u8> for Tag {
@@ -61,7 +61,7 @@ impl Tag {
     }
 }
 
-// How many bytes the payload of a kind has, if there is such a kind: the byte is one that a line may begin with.
+// How many bytes the payload of a kind has, if there is such a kind. A byte and no `Tag`: callers may give any, and are told `None`.
 pub fn payload_length(kind: u8) -> Option<usize>
     ensures { result ≡ payload_length kind }
 {

@@ -12,6 +12,7 @@ use refusal::Refusal;
 pub(crate) fn propose(mut sheet: Sheet, set: u64) -> (State, Result<u8, Refusal>)
     ensures { Gives (obeyed (on_sheet (sheet_net sheet) (sheet_strands sheet)) (Propose set)) result.0 result.1 }
 {
+    // the two cases apart: the count is read from the sheet that the proposal left
     match sheet.propose(set) {
         Ok(()) => {
             let count = sheet.count();

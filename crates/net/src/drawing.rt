@@ -47,7 +47,7 @@ impl Net {
         Ok(())
     }
 
-    // Replaces the set that the transition takes, and the set that it gives.
+    // Replaces the set that the transition takes, and the set that it gives. Two parameters: each call would have to name them in a struct.
     pub fn arcs(&mut self, transition: u8, taken: u64, given: u64) -> Result<(), Refusal>
         ensures answer { result ≡ arcs_outcome (drawn self.old) transition taken given }
         ensures after { Becomes self.old (with_arcs (drawn self.old) transition taken given) result self.new }

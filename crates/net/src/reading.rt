@@ -49,7 +49,7 @@ impl Net {
         self.transition(t).given
     }
 
-    // The same net once more. It cannot fail, as a derived `clone` could by its result; and `Net` is not `Copy`, so that a net on a sheet is given no arcs.
+    // The same net once more. A derived `clone` could fail; and `Net` is not `Copy`, so a net that was moved onto a sheet is given no more arcs.
     pub fn copy(&self) -> Net
         ensures { drawn result ≡ drawn self.now }
     {

@@ -45,7 +45,7 @@ pub enum Refusal {
     MemoryTooShort,
 }
 
-// A refusal has two numbers, of which a conversion to a number would not say which it gives: so each is a method with a name.
+// A refusal has two numbers, and a conversion would not say which of them it gives: so each has a method.
 impl Refusal {
     // The number by which users know the refusal, from 1 to 24.
     pub fn number(self) -> u8

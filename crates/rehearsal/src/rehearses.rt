@@ -16,10 +16,9 @@ use net::Net;
 use run::Entry;
 use weight::Weight;
 
-// The clauses name the members of the bounds one by one, so that each shows what it speaks of: the lit set, the shut channel,
-// the rule for signals, the addition.
 // Folds a copy of the net by so many fuse calls; certifies the net by its cover, starts a run on the board,
 // and makes the calls of the log one after another, writing each answer beside its call.
+// The clauses name the members of the bounds one by one: so each shows what it speaks of.
 pub fn rehearse<B: Board, W: Weight>(
     net: Net,
     cover: &[u64],

@@ -1,6 +1,6 @@
 -- The texts that a report is made of, in ASCII.
 --   members_of    the members of a set between braces
---   kind_name_of  the kind of a line in a word or two
+--   kind_name_of  the kind of a line in a few words
 --   draw_text, arcs_text, propose_text, fire_text, signal_text, answer_text   what a line of that kind says, with its fields
 --   saying_of     what any line says
 use Rattle.std.specs.Prelude.{ℕ, zero, suc, cond, List, [], ◌++◌, Some, None, codes, decimal, Option}

@@ -15,7 +15,7 @@ impl fmt::Display for Braced {
     ghost output = { λ set. Some (members_of set.0) };
 
     fn fmt<W: fmt::Write>(&self, f: &mut fmt::Formatter<W>) -> fmt::Result {
-        // a loop and no chain: each turn writes to the same writer, and may fail
+        // a loop and no chain: `for` with `?` is how a writer is written to, and its invariant says what is written so far
         f.write_str("{")?;
         for place in 0..64 {
             if has(self.0, place) {
@@ -33,7 +33,7 @@ pub fn members(heap: Global, set: u64) -> Result<String, AllocError>
     Braced(set).to_string(heap)
 }
 
-// The kind of a line in a word or two.
+// The kind of a line in a few words.
 pub fn kind_name(kind: Option<Kind>) -> &'static str
     ensures { result.now ≡ kind_name_of kind }
 {
@@ -81,6 +81,7 @@ fn signal_text(heap: Global, channel: u8, event: u8) -> Result<String, AllocErro
     format!(in heap; "signal: channel {channel}, event {event}")
 }
 
+// The result is a byte, as it stands on the line.
 fn answer_text(
     heap: Global,
     to: Option<Kind>,

@@ -1,9 +1,9 @@
-use Rattle.std.proofs.Common.{◌≡◌, ◌<◌, ◌≤◌, length, None, Err, sym, ◌∙◌, subst, arith, rules}
+use Rattle.std.proofs.Common.{◌≡◌, ◌<◌, ◌≤◌, length, get_or, None, Err, sym, ◌∙◌, subst, arith, rules}
 use Rattle.refusal.specs.declared.Refusal.TheVariants.{OddOrShort, WrongCheck, UnknownKind}
 use Rattle.frame.specs.Kinds.{payload_length}
 use Rattle.frame.specs.Lines.{check_digits}
 use Rattle.frame.specs.Frames.{DigitsRead, Reads}
-use Rattle.frame.proofs.Fields.{byte_at}
+use Rattle.frame.proofs.Fields.{byte_at, two_digits}
 use Rattle.frame.proofs.Again.{result_writes}
 use Rattle.frame.proofs.Readings.{sum_passes, too_few, wrong_check, unknown_kind, middle, reads_digits}
 use Rattle.frame.proofs.reads.read.Goals as goal
@@ -34,7 +34,7 @@ returns-in_err-tag-clause-reads c =
     let long : 4 ≤ length ds = search rules in
     let (why, unknown) = c.in_err-tag.ensures in
     let told : c.from_residual-in_err-tag.result ≡ Err UnknownKind = search rules in
-    let kind = c.byte.ensures ∙ sym (byte_at ds 0 (omega arith)) in
+    let kind = two_digits (get_or ds 0 0) (get_or ds 1 0) c.in-Some.high c.in-Some-digit.low (sym c.digit.ensures ∙ c.in-Some.is) (sym c.digit-2.ensures ∙ c.in-Some-digit.is) ∙ sym (byte_at ds 0 (omega arith)) in
     rw told (subst (λ l. check_digits l ≡ Err UnknownKind) c.digits_in-digits.ensures (unknown_kind ds (digits, even, long) (sym is ∙ c.if-sum-ne0.false) (subst (λ k. payload_length k ≡ None) kind unknown)), tt)
 
 pub returns : goal.returns
@@ -43,7 +43,7 @@ returns c =
     let (none, is) = c.in_ok-sum.ensures in
     let (digits, even) = sum_passes ds none in
     let long : 4 ≤ length ds = search rules in
-    let kind = c.in_ok-tag.ensures ∙ c.byte.ensures ∙ sym (byte_at ds 0 (omega arith)) in
+    let kind = c.in_ok-tag.ensures ∙ two_digits (get_or ds 0 0) (get_or ds 1 0) c.in-Some.high c.in-Some-digit.low (sym c.digit.ensures ∙ c.in-Some.is) (sym c.digit-2.ensures ∙ c.in-Some-digit.is) ∙ sym (byte_at ds 0 (omega arith)) in
     let reading : Reads c.args.line.now c.args.place c.frame.result =
     subst (λ l. DigitsRead l c.args.place c.frame.result) c.digits_in-digits.ensures
     (reads_digits ds _ c.args.place _ c.frame.result (digits, even, long) (sym is ∙ c.if-sum-ne0.false) kind (middle ds) c.frame.ensures) in
