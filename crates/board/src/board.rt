@@ -21,7 +21,7 @@ pub trait Board: Lines {
         ensures { Laid Self.Lines.lit closed set self.old self.new };
 
     // Turns the lines of `dark` off, then those of `light` on; or, where a channel is shut, does nothing and tells the channel.
-    // The two sets are no struct, since every call would write out the names that they have here.
+    // Two parameters and no struct: each call would have to write `dark` and `light` out.
     fn exchange(&mut self, dark: u64, light: u64) -> Result<(), Shut>
         ensures { Exchanged Self.Lines.lit closed dark light self.old result self.new };
 

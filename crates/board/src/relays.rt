@@ -9,6 +9,7 @@ use relay::Relay;
 // Contracts see the field and not a bare list: a law of `Lines` needs that there are 64.
 #[derive(Clone, Copy)]
 pub struct Relays {
+    // All 64 are there, so no length stands beside the array.
     relays: [Relay; 64],
     ghost long: { length relays ≡ 64 },
 }
