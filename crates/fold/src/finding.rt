@@ -84,7 +84,7 @@ pub(crate) fn only_one(net: &Net, side: Side, place: u8) -> Option<u8>
     }
 }
 
-// Whether the place allows a transition fusion.
+// Whether the place allows a transition fusion. Its caller gives only places of the net, so it has no test for any other.
 fn joins_two(net: &Net, place: u8) -> bool
     requires { place < 64 }
     ensures { result ≡ transition_fusible (drawn net.now) place }

@@ -64,7 +64,7 @@ impl Frame<'_> {
         }
     }
 
-    // The kind byte of the line, as it stands there: a byte and no `Tag`, since its type is promised.
+    // The kind byte of the line, as it stands there: a byte and no `Tag`, which callers would convert back.
     pub fn kind(self) -> u8
         ensures { result ≡ kind_of self.entry }
     {
