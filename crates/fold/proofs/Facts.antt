@@ -52,7 +52,7 @@ module _ (f : Folded) (fusion : Fusion) (next : fusion_of (folded_net f) ≡ Som
       (cases_eq j (made f))
 
   -- there is room for the step
-  pub room_for_step : (made f) < 64
+  pub room_for_step : made f < 64
   room_for_step =
       let few = folding_room (folded_original f) (net_kept f.original) f.original.placed (suc (made f)) each_there in
       let most = f.original.counted in
@@ -66,13 +66,13 @@ module _ (f : Folded) (fusion : Fusion) (next : fusion_of (folded_net f) ≡ Som
     pub plan_net_kept : Kept (replaced (folded_net f) x step.place step.set)
     plan_net_kept = plan_kept (folded_net f) (net_kept f.folded) f.folded.placed fusion (fusion_applies (folded_net f) fusion next) x step xs steps
 
-  pub next_net : (new : PetriNet) → new ≡ net_after (folded_net f) fusion → new ≡ folding (folded_original f) ((made f) + 1)
+  pub next_net : (new : PetriNet) → new ≡ net_after (folded_net f) fusion → new ≡ folding (folded_original f) (made f + 1)
   next_net new e =
       e ∙ sym (ap (after_fusion (folded_net f)) next) ∙ ap (λ n. after_fusion n (fusion_of n)) f.fused ∙ ap (folding (folded_original f)) (sym (add-one (made f)))
 
   pub next_covers : (new : PetriNet) → new ≡ net_after (folded_net f) fusion → HasCover new ↔ HasCover (folded_original f)
   next_covers new e =
-      subst (λ n. HasCover n ↔ HasCover (folded_original f)) (sym (next_net new e)) (folding_covers (folded_original f) (net_kept f.original) f.original.placed ((made f) + 1))
+      subst (λ n. HasCover n ↔ HasCover (folded_original f)) (sym (next_net new e)) (folding_covers (folded_original f) (net_kept f.original) f.original.placed (made f + 1))
 
   pub next_noted : (step : Step) → step ≡ step_of (folded_net f) fusion → Noted (folded_original f) (folded_steps f ++ step ∷ []) (made f + 1)
   next_noted step is k l = ⊎_elim
