@@ -1,5 +1,4 @@
 pub mod Complements
 pub mod Copies
-pub mod Folds
 pub mod Rows
 pub mod Turning

@@ -91,15 +91,15 @@ module _ (n : PetriNet) (kept : Kept n) (few : n.places ≤ 64) where
       let falls = step_busy (folding n k) (folding_kept k).0 (folding_few k) (fusion_of (folding n k)) refl (all k (omega arith)) in
       omega arith
 
-  -- a piece of the folded net, with the noted places of the first steps put back, is a piece of the net
-  first_back : (steps : List Step) → Noted n steps (length steps) → (k : ℕ) → k ≤ length steps → (s : ℕ) → Piece (folding n k) s → Piece n (unfolded (take k steps) s)
-  first_back steps all zero le s piece = piece
-  first_back steps all (suc k) le s piece =
+  -- a piece of the folded net, with the noted places put back, is a piece of the net
+  pub folding_back : (steps : List Step) (count : ℕ) → count ≤ length steps → Noted n steps count → (k : ℕ) → k ≤ count → (s : ℕ) → Piece (folding n k) s → Piece n (unfolded (take k steps) s)
+  folding_back steps count long all zero le s piece = piece
+  folding_back steps count long all (suc k) le s piece =
       let (is, place, set) = all k (omega arith) in
       let back = step_back (folding n k) (folding_kept k).0 (folding_few k) (fusion_of (folding n k)) refl is s piece in
-      let rest = first_back steps all k (omega arith) _ back in
+      let rest = folding_back steps count long all k (omega arith) _ back in
       subst (Piece n) (ap (unfolded (take k steps)) (ap₂ (λ p t. put_back p t s) (sym place) (sym set)) ∙ sym (unfolded_more steps k nothing_noted s (omega arith))) rest
 
   -- and with those of all steps
-  pub folding_back : (steps : List Step) → Noted n steps (length steps) → (s : ℕ) → Piece (folding n (length steps)) s → Piece n (unfolded steps s)
-  folding_back steps all s piece = subst (λ l. Piece n (unfolded l s)) (take-length steps) (first_back steps all (length steps) (omega arith) s piece)
+  pub all_back : (steps : List Step) → Noted n steps (length steps) → (s : ℕ) → Piece (folding n (length steps)) s → Piece n (unfolded steps s)
+  all_back steps all s piece = subst (λ l. Piece n (unfolded l s)) (take-length steps) (folding_back steps (length steps) (omega arith) all (length steps) (omega arith) s piece)

@@ -77,8 +77,9 @@ pub(crate) fn only_one(net: &Net, side: Side, place: u8) -> Option<u8>
     ensures { result ≡ sole_on (drawn net.now) side place }
 {
     let on_side = |&t: &u8| has(set_on(net, side, t), place);
-    let first = (0..net.transitions()).find(on_side)?;
-    match (first + 1..net.transitions()).find(on_side) {
+    let mut transitions = 0..net.transitions();
+    let first = transitions.find(on_side)?;
+    match transitions.find(on_side) {
         None => Some(first),
         Some(_) => None,
     }

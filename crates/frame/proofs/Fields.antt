@@ -1,8 +1,10 @@
 -- One byte among digits, and the number that several make.
 use Rattle.std.proofs.Common.{◌≡◌, ℕ, zero, suc, ◌+◌, ◌*◌, ◌<◌, ◌≤◌, List, [], ◌∷◌, length, get_or, unwrap_or, Some, sym, refl, ap, ◌∙◌, ap₂, arith}
+use Rattle.std.proofs.lemmas.List.{get_or_past}
 use Rattle.frame.specs.Digits.{digit_of, number_of, bytes_of}
 use Rattle.std.specs.Int.{from_be_bytes, w64}
 use Rattle.frame.specs.Requests.{number_from, set_at}
+use Rattle.frame.proofs.Readings.{length_bytes}
 
 pub byte_at : (ds : List ℕ) (i : ℕ) → 2 * i + 2 ≤ length ds → get_or (bytes_of ds) i 0 ≡ number_of (get_or ds (2 * i) 0) * 16 + number_of (get_or ds (2 * i + 1) 0)
 byte_at [] i long = absurd (omega arith)
@@ -12,6 +14,9 @@ byte_at (a ∷ (b ∷ cs)) (suc i) long =
     let first : suc (suc (2 * i)) ≡ 2 * suc i = omega arith in
     let second : suc (suc (2 * i + 1)) ≡ 2 * suc i + 1 = omega arith in
     byte_at cs i (omega arith) ∙ ap₂ (λ j k. number_of (get_or (a ∷ (b ∷ cs)) j 0) * 16 + number_of (get_or (a ∷ (b ∷ cs)) k 0)) first second
+
+pub no_byte : (ds : List ℕ) (i : ℕ) → length ds < 2 * i + 2 → get_or (bytes_of ds) i 0 ≡ 0
+no_byte ds i short = get_or_past (bytes_of ds) i 0 (let h = length_bytes ds in omega arith)
 
 -- eight bytes, read as one number, are a set
 pub set_from_bytes : (bytes ys : List ℕ) (at : ℕ) → ((i : ℕ) → i < 8 → get_or ys i 0 ≡ get_or bytes (at + i) 0) → from_be_bytes w64 ys ≡ set_at bytes at

@@ -1,50 +1,41 @@
 // A line as it was read: an enum of kinds, whose cases hold the payload.
-ghost use Rattle.std.specs.Prelude.{◌≡◌, ◌≢◌, ◌+◌, ◌*◌, ◌<◌, ◌≤◌, length, slice_index, MatchResult};
-ghost use Rattle.refusal.specs.declared.Refusal.TheVariants.{WrongLength};
+ghost use Rattle.std.specs.Prelude.{◌≡◌, ◌+◌, ◌<◌, ◌≤◌, slice_index};
 ghost use Rattle.frame.specs.Digits.{bytes_of};
 ghost use Rattle.frame.specs.Requests.{set_at};
 
 use crate::digits::byte;
 use crate::kinds::Kind;
-use refusal::Refusal;
 use std::array;
 
-// The digits of a payload of N bytes, two to a byte: a part of the caller's input, with the place of its line there.
+// The digits of a payload, two to a byte: a part of the caller's input, with the place of its line there.
+// Only reading a line makes one, so the digits are as many as the kind of the line asks. Their number is no part of the type:
+// a frame of any kind may be made of any payload, and says what its digits say.
 #[derive(Clone, Copy, Debug)]
-pub struct Payload<'a, const N: usize> {
-    digits: &'a [u8],
-    place: usize,
-    ghost whole: { length digits.now ≡ 2 * N },
+pub struct Payload<'a> {
+    pub(crate) digits: &'a [u8],
+    pub(crate) place: usize,
 }
 
-impl<'a, const N: usize> Payload<'a, N> {
-    // The payload of N bytes with these digits, if there are 2 N of them.
-    pub(crate) fn of(digits: &'a [u8], place: usize) -> Result<Self, Refusal>
-        requires few { N ≤ 17 }
-        ensures { MatchResult result (λ p. (p.digits.now ≡ digits.now) × (p.place ≡ place)) (λ why. (why ≡ WrongLength) × (length digits.now ≢ 2 * N)) }
-    {
-        if digits.len() != 2 * N {
-            return Err(Refusal::WrongLength);
-        }
-        Ok(Payload { digits, place })
-    }
-
-    // The byte at `at`.
+impl Payload<'_> {
+    // The byte at `at`; 0 where there is none, as never for a field of the payload's kind.
     pub(crate) fn byte(self, at: usize) -> u8
-        requires { at < N }
+        requires { at < 32 }
         ensures { result ≡ slice_index (bytes_of self.entry.digits.now) at }
     {
+        if self.digits.len() < 2 * at + 2 {
+            return 0;
+        }
         byte(self.digits[2 * at], self.digits[2 * at + 1])
     }
 
     // The set whose 8 bytes begin at `at`, highest first.
     pub(crate) fn set(self, at: usize) -> u64
-        requires { at + 8 ≤ N }
+        requires { at ≤ 9 }
         ensures { result ≡ set_at (bytes_of self.entry.digits.now) at }
     {
         let bytes = array::from_fn(
             |i: usize| -> u8
-                requires { at + i < N }
+                requires { at + i < 32 }
                 ensures { result ≡ slice_index (bytes_of self.entry.digits.now) (at + i) }
             { self.byte(at + i) },
         );
@@ -52,23 +43,23 @@ impl<'a, const N: usize> Payload<'a, N> {
     }
 }
 
-// A line by its kind, with a payload as long as a line of that kind has.
+// A line by its kind, with its payload.
 #[derive(Clone, Copy, Debug)]
 pub enum Frame<'a> {
-    Draw(Payload<'a, 10>),
-    Arcs(Payload<'a, 17>),
-    Propose(Payload<'a, 8>),
-    Search(Payload<'a, 0>),
-    Certify(Payload<'a, 0>),
-    Fire(Payload<'a, 1>),
-    Signal(Payload<'a, 2>),
-    Halt(Payload<'a, 0>),
-    Resume(Payload<'a, 0>),
-    Home(Payload<'a, 0>),
+    Draw(Payload<'a>),
+    Arcs(Payload<'a>),
+    Propose(Payload<'a>),
+    Search(Payload<'a>),
+    Certify(Payload<'a>),
+    Fire(Payload<'a>),
+    Signal(Payload<'a>),
+    Halt(Payload<'a>),
+    Resume(Payload<'a>),
+    Home(Payload<'a>),
     // the answer to a line of a kind, or to one that has none: an unreadable line, or itself an answer
     Answer {
         to: Option<Kind>,
-        payload: Payload<'a, 10>,
+        payload: Payload<'a>,
     },
 }
 

@@ -46,27 +46,36 @@ fn sum_of(digits: &[u8]) -> Result<u8, Refusal>
 }
 
 impl Tag {
+    // The frame of a line with this tag that holds this payload, however long.
+    fn holding<'a>(self, payload: Payload<'a>) -> Frame<'a>
+        ensures kind { kind_of result ≡ tag_byte self }
+        ensures digits { digits_of result ≡ payload.entry.digits.now }
+        ensures place { place_of result ≡ payload.entry.place }
+    {
+        match self {
+            Tag::Asks(Kind::Draw) => Frame::Draw(payload),
+            Tag::Asks(Kind::Arcs) => Frame::Arcs(payload),
+            Tag::Asks(Kind::Propose) => Frame::Propose(payload),
+            Tag::Asks(Kind::Search) => Frame::Search(payload),
+            Tag::Asks(Kind::Certify) => Frame::Certify(payload),
+            Tag::Asks(Kind::Fire) => Frame::Fire(payload),
+            Tag::Asks(Kind::Signal) => Frame::Signal(payload),
+            Tag::Asks(Kind::Halt) => Frame::Halt(payload),
+            Tag::Asks(Kind::Resume) => Frame::Resume(payload),
+            Tag::Asks(Kind::Home) => Frame::Home(payload),
+            Tag::Answers(to) => Frame::Answer { to, payload },
+        }
+    }
+
     // The frame of a line with this tag, if its payload is as long as the tag asks.
     fn frame<'a>(self, digits: &'a [u8], place: usize) -> Result<Frame<'a>, Refusal>
         requires { length digits.now % 2 ≡ 0 }
         ensures { Tells (check_kind (tag_byte self) (length digits.now / 2) (Fine tt)) result (λ f. (kind_of f ≡ tag_byte self) × (digits_of f ≡ digits.now) × (place_of f ≡ place)) (Unit {0}) }
     {
-        Ok(match self {
-            Tag::Asks(Kind::Draw) => Frame::Draw(Payload::of(digits, place)?),
-            Tag::Asks(Kind::Arcs) => Frame::Arcs(Payload::of(digits, place)?),
-            Tag::Asks(Kind::Propose) => Frame::Propose(Payload::of(digits, place)?),
-            Tag::Asks(Kind::Search) => Frame::Search(Payload::of(digits, place)?),
-            Tag::Asks(Kind::Certify) => Frame::Certify(Payload::of(digits, place)?),
-            Tag::Asks(Kind::Fire) => Frame::Fire(Payload::of(digits, place)?),
-            Tag::Asks(Kind::Signal) => Frame::Signal(Payload::of(digits, place)?),
-            Tag::Asks(Kind::Halt) => Frame::Halt(Payload::of(digits, place)?),
-            Tag::Asks(Kind::Resume) => Frame::Resume(Payload::of(digits, place)?),
-            Tag::Asks(Kind::Home) => Frame::Home(Payload::of(digits, place)?),
-            Tag::Answers(to) => Frame::Answer {
-                to,
-                payload: Payload::of(digits, place)?,
-            },
-        })
+        if digits.len() != 2 * self.payload_length() {
+            return Err(Refusal::WrongLength);
+        }
+        Ok(self.holding(Payload { digits, place }))
     }
 }
 

@@ -1,3 +1,4 @@
+pub mod Walks
 pub mod Firings
 pub mod Accepts
 pub mod Chains

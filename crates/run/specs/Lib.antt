@@ -1,4 +1,5 @@
 pub mod Firing
+pub mod Walks
 pub mod Runs
 pub mod Calls
 pub mod States

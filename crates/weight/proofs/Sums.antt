@@ -1,7 +1,6 @@
 -- Sums: the start, a step, sums of equal terms and sums of sums.
-use Rattle.std.specs.List.{fold, filter, range_with_len}
+use Rattle.std.specs.List.{fold, range_with_len}
 use Rattle.std.proofs.Common.{Bool, true, false, cond, ◌≡◌, ℕ, zero, suc, ◌+◌, ◌<◌, sym, refl, ap, ◌∙◌, ap₂, add-one, arith}
-use Rattle.board.proofs.Folds.{fold_where}
 use Rattle.weight.specs.Additions.{Addition, CommutativeMonoid}
 use Rattle.weight.specs.Weights.{summed}
 
@@ -44,10 +43,9 @@ module _ {W : Type 0} (a : Addition W) where
     module _ (test : ℕ → Bool) (f : ℕ → W) where
       -- adding up those of k numbers from m on that pass the test, on top of the sum up to m
       pub summed_where : (k m : ℕ) (sum : W) → sum ≡ summed a m (λ n. cond (test n) (f n) a.neutral)
-          → fold (λ x n. a.plus x (f n)) sum (filter test (range_with_len m k)) ≡ summed a (m + k) (λ n. cond (test n) (f n) a.neutral)
+          → fold (λ x n. cond (test n) (a.plus x (f n)) x) sum (range_with_len m k) ≡ summed a (m + k) (λ n. cond (test n) (f n) a.neutral)
       summed_where zero m sum so = so ∙ ap (λ j. summed a j (λ n. cond (test n) (f n) a.neutral)) (omega arith)
       summed_where (suc k) m sum so =
           let passed : ℕ → W = λ n. cond (test n) (f n) a.neutral in
-          fold_where (λ x n. a.plus x (f n)) (test m) sum m (filter test (range_with_len (m + 1) k))
-          ∙ summed_where k (m + 1) (cond (test m) (a.plus sum (f m)) sum) (plus_where (test m) sum (f m) ∙ ap (λ x. a.plus x (passed m)) so ∙ summed_more m passed)
+          summed_where k (m + 1) (cond (test m) (a.plus sum (f m)) sum) (plus_where (test m) sum (f m) ∙ ap (λ x. a.plus x (passed m)) so ∙ summed_more m passed)
           ∙ ap (λ j. summed a j passed) (omega arith)

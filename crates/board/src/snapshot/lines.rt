@@ -17,9 +17,8 @@ impl Snapshot {
     pub fn of<L: Lines>(lines: &L) -> Snapshot
         ensures { result.set ≡ L.Lines.lit lines.now }
     {
-        let set = (0..64)
-            .filter(|&line| lines.read(line))
-            .fold(0, |set, line| set | 1 << line);
+        // Each bit is shifted into place as it is read: a filter or a test on each line makes the copy slower.
+        let set = (0..64).fold(0, |set, line| set | u64::from(lines.read(line)) << line);
         Snapshot::new(set)
     }
 

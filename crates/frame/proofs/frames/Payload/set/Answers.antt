@@ -4,4 +4,4 @@ use Rattle.frame.proofs.Fields.{set_from_bytes}
 use Rattle.frame.proofs.frames.Payload.set.Goals as goal
 
 pub returns : goal.returns
-returns g c = c.from_be_bytes.ensures ∙ set_from_bytes (bytes_of c.args.self.digits.now) c.from_fn-bytes.result c.args.at (search rules)
+returns c = c.from_be_bytes.ensures ∙ set_from_bytes (bytes_of c.args.self.digits.now) c.from_fn-bytes.result c.args.at (search rules)
